@@ -1,0 +1,43 @@
+-- The text of an error code.
+use Rattle.std.specs.Prelude.{ℕ, List, codes}
+use Rattle.item_tree.specs.declared.code.Code.{Code}
+use Rattle.item_tree.specs.declared.code.Code.TheVariants.{XPST0003, XPST0008, XPST0017, XPST0051, XQST0034, XQST0039, XQST0049, XQST0089, XQST0094, XPDY0002, XPDY0050, XPTY0004, FOAR0001, FOAR0002, FORG0001, FORG0003, FORG0004, FORG0005, FORG0006, FOER0000, FODC0002, JNDY0003, JNDY0021, JNTY0004, JNTY0018, PJST0001, PJST0002, PJST0003, PJST0004, PJST0005, PJST0099, PJDY0001, PJDY0002, PJDY0003, PJDY0004, PJDY0099}
+
+-- a code's text is its name
+abbrev pub code_text : Code → List ℕ
+code_text XPST0003 = codes "XPST0003"
+code_text XPST0008 = codes "XPST0008"
+code_text XPST0017 = codes "XPST0017"
+code_text XPST0051 = codes "XPST0051"
+code_text XQST0034 = codes "XQST0034"
+code_text XQST0039 = codes "XQST0039"
+code_text XQST0049 = codes "XQST0049"
+code_text XQST0089 = codes "XQST0089"
+code_text XQST0094 = codes "XQST0094"
+code_text XPDY0002 = codes "XPDY0002"
+code_text XPDY0050 = codes "XPDY0050"
+code_text XPTY0004 = codes "XPTY0004"
+code_text FOAR0001 = codes "FOAR0001"
+code_text FOAR0002 = codes "FOAR0002"
+code_text FORG0001 = codes "FORG0001"
+code_text FORG0003 = codes "FORG0003"
+code_text FORG0004 = codes "FORG0004"
+code_text FORG0005 = codes "FORG0005"
+code_text FORG0006 = codes "FORG0006"
+code_text FOER0000 = codes "FOER0000"
+code_text FODC0002 = codes "FODC0002"
+code_text JNDY0003 = codes "JNDY0003"
+code_text JNDY0021 = codes "JNDY0021"
+code_text JNTY0004 = codes "JNTY0004"
+code_text JNTY0018 = codes "JNTY0018"
+code_text PJST0001 = codes "PJST0001"
+code_text PJST0002 = codes "PJST0002"
+code_text PJST0003 = codes "PJST0003"
+code_text PJST0004 = codes "PJST0004"
+code_text PJST0005 = codes "PJST0005"
+code_text PJST0099 = codes "PJST0099"
+code_text PJDY0001 = codes "PJDY0001"
+code_text PJDY0002 = codes "PJDY0002"
+code_text PJDY0003 = codes "PJDY0003"
+code_text PJDY0004 = codes "PJDY0004"
+code_text PJDY0099 = codes "PJDY0099"

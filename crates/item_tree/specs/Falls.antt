@@ -1,0 +1,27 @@
+-- Each item of an array or an object is less deep than it.
+use Rattle.std.specs.Prelude.{ℕ, ◌+◌, ◌≤◌, List, [], ◌∷◌}
+use Rattle.std.proofs.Common.{arith}
+use denote.Param.Weighed.{most}
+use Rattle.item_tree.specs.declared.item.Item.{Item}
+use Rattle.item_tree.specs.declared.item.Item.TheVariants.{Null, Bool, Int, Dec, Text, Array, Object}
+use Rattle.item_tree.specs.declared.item.Items.TheDeep.{deep-Item}
+use Rattle.item_tree.specs.declared.item.Items.TheShapes.{weighed-Pairs-pairs-at-2}
+use Rattle.item_tree.specs.Datum.{depth, array_of_list, object_of_pairs}
+use Rattle.item_tree.specs.Item.{datum, datums, pair_datums}
+
+deep_le : (x : Item) → deep-Item x ≤ depth (datum x) + 1
+deep_le Null = omega arith
+deep_le (Bool b) = omega arith
+deep_le (Int n) = omega arith
+deep_le (Dec m) = omega arith
+deep_le (Text t) = omega arith
+deep_le (Array vs) = omega arith
+deep_le (Object ps) = omega arith
+
+pub items_fall : (xs : List Item) → most deep-Item xs ≤ depth (array_of_list (datums xs))
+items_fall [] = omega arith
+items_fall (x ∷ xs) = omega (arith, items_fall xs, deep_le x)
+
+pub pairs_fall : (ps : List (List ℕ × Item)) → most (weighed-Pairs-pairs-at-2.weight Item deep-Item) ps ≤ depth (object_of_pairs (pair_datums ps))
+pairs_fall [] = omega arith
+pairs_fall (p ∷ ps) = omega (arith, pairs_fall ps, deep_le p.1)

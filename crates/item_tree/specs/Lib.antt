@@ -1,0 +1,6 @@
+pub mod Codes
+pub mod Datum
+pub mod DatumCode
+pub mod Item
+pub mod Falls
+pub mod ItemText

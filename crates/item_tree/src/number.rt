@@ -1,0 +1,76 @@
+ghost use Rattle.std.specs.Prelude.{◌≡◌};
+ghost use Rattle.item_tree.specs.Datum.{IsWhole, IsUnits};
+
+use std::marker::Model;
+
+/// An integer: a whole number n with |n| < 10^20.
+#[derive(Clone, Copy, Debug)]
+pub struct Whole {
+    n: i128,
+}
+
+impl Model for Whole {
+    ghost use Rattle.std.specs.Prelude.{ℤ, pos, negsuc, ◌<ℤ◌, ◌^◌};
+
+    ghost Value = { ℤ };
+
+    ghost use Rattle.item_tree.specs.Datum.{IsWhole};
+
+    ghost view = { λ a. a.n };
+
+    ghost invariant = { λ a. IsWhole a.n };
+
+    ghost inverse = { λ z. record { n = z } };
+}
+
+impl Whole {
+    pub fn new(n: i128) -> Whole
+        requires { IsWhole n }
+        ensures { result ≡ n }
+    {
+        Whole { n }
+    }
+
+    pub fn get(&self) -> i128
+        ensures value { result ≡ self.now }
+        ensures within { IsWhole self.now }
+    {
+        self.n
+    }
+}
+
+/// A decimal: a whole number m of units of 10^-6, with |m| < 10^26.
+#[derive(Clone, Copy, Debug)]
+pub struct Units {
+    m: i128,
+}
+
+impl Model for Units {
+    ghost use Rattle.std.specs.Prelude.{ℤ, pos, negsuc, ◌<ℤ◌, ◌^◌};
+
+    ghost Value = { ℤ };
+
+    ghost use Rattle.item_tree.specs.Datum.{IsUnits};
+
+    ghost view = { λ a. a.m };
+
+    ghost invariant = { λ a. IsUnits a.m };
+
+    ghost inverse = { λ z. record { m = z } };
+}
+
+impl Units {
+    pub fn new(m: i128) -> Units
+        requires { IsUnits m }
+        ensures { result ≡ m }
+    {
+        Units { m }
+    }
+
+    pub fn get(&self) -> i128
+        ensures value { result ≡ self.now }
+        ensures within { IsUnits self.now }
+    {
+        self.m
+    }
+}
