@@ -1,0 +1,45 @@
+-- The lines of an input, in the manner of JSON Lines.
+use Rattle.std.specs.Prelude.{ℕ, ◌+◌, ◌==◌, nat_eq, Bool, not, ◌||◌, List, [], ◌∷◌, length, drop, filter, if◌then◌else◌}
+use Rattle.std.specs.List.{list_all, starts_with}
+
+-- a line, and the offset of its first byte in the input
+pub record Line : Type 0 where
+  pub at : ℕ
+  pub bytes : List ℕ
+
+abbrev pub put_first : ℕ → List (List ℕ) → List (List ℕ)
+put_first b [] = (b ∷ []) ∷ []
+put_first b (l ∷ ls) = (b ∷ l) ∷ ls
+
+-- what stands between the LFs, one more than there are LFs
+abbrev pub cut : List ℕ → List (List ℕ)
+cut [] = [] ∷ []
+cut (b ∷ bs) = if b == 10 then [] ∷ cut bs else put_first b (cut bs)
+
+-- the lines with their offsets, the first of which stands at this one; an LF stands between two
+abbrev pub placed : ℕ → List (List ℕ) → List Line
+placed offset [] = []
+placed offset (l ∷ ls) = record { at = offset; bytes = l } ∷ placed (offset + length l + 1) ls
+
+-- the byte order mark of UTF-8
+abbrev pub mark : List ℕ
+mark = 239 ∷ 187 ∷ 191 ∷ []
+
+abbrev pub without_mark : List ℕ → List ℕ
+without_mark bytes = if starts_with nat_eq bytes mark then drop 3 bytes else bytes
+
+-- a byte order mark is no part of the first line, whose offset stays
+abbrev pub unmarked : List Line → List Line
+unmarked [] = []
+unmarked (l ∷ ls) = record l { bytes = without_mark l.bytes } ∷ ls
+
+-- what may stand round the text of a line: space, tab and CR
+abbrev pub is_line_space : ℕ → Bool
+is_line_space b = b == 32 || b == 9 || b == 13
+
+abbrev pub is_blank : List ℕ → Bool
+is_blank line = list_all is_line_space line
+
+-- the lines of an input that are not blank
+abbrev pub lines : List ℕ → List Line
+lines input = filter (λ l. not (is_blank l.bytes)) (unmarked (placed 0 (cut input)))

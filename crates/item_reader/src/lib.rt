@@ -1,0 +1,6 @@
+//! Reads the lines of an input as items.
+#![tactic(auto)]
+
+mod fault;
+
+pub use fault::LineFault;
