@@ -1,1 +1,3 @@
 mod ReadingRows
+pub mod Spaces
+pub mod Digits

@@ -1,5 +1,5 @@
 -- Inputs whose items are known, read by the definitions.
-use Rattle.std.specs.Prelude.{◌≡◌, List, ℕ, [], ◌∷◌, Ok, Err, codes, pos, negsuc, refl}
+use Rattle.std.specs.Prelude.{◌≡◌, [], ◌∷◌, Ok, Err, codes, pos, negsuc, refl}
 use Rattle.item_tree.specs.Datum.{integer}
 use Rattle.item_tree.specs.declared.code.Code.TheVariants.{PJDY0004, PJDY0099}
 use Rattle.item_reader.specs.Lines.{lines}

@@ -2,5 +2,7 @@
 #![tactic(auto)]
 
 mod fault;
+mod read;
 
 pub use fault::LineFault;
+pub use read::read_item;
