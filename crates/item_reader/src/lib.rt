@@ -3,6 +3,8 @@
 
 mod fault;
 mod read;
+#[cfg(test)]
+mod tests;
 
 pub use fault::LineFault;
 pub use read::read_item;
