@@ -1,0 +1,28 @@
+-- What a call does to an object's counts, and to what was written.
+use Rattle.std.specs.Prelude.{Bool, true, false, ◌≡◌, ◌<◌, ◌≤◌, ◌⊎◌, ◌++◌, ◌+◌, ◌^◌, ◌-◌, ℕ, List, Option, None, Some, length, take}
+
+-- a count that rose, or stands at the last value of a counter
+abbrev pub Rose : ℕ → ℕ → Type 0
+Rose before after = (before < after) ⊎ (2 ^ 64 - 1 ≤ after)
+
+-- a count at the last value of a counter stays there
+abbrev pub StaysFull : ℕ → ℕ → Type 0
+StaysFull before after = 2 ^ 64 - 1 ≤ before → after ≡ before
+
+-- a count that rose by one, or stood at the last value of a counter and stays
+abbrev pub RoseByOne : ℕ → ℕ → Type 0
+RoseByOne before after = ((before < 2 ^ 64 - 1) × (after ≡ before + 1)) ⊎ ((2 ^ 64 - 1 ≤ before) × (after ≡ before))
+
+-- a count that rises where the call fails, and else stays
+abbrev pub FailsBy : Bool → ℕ → ℕ → Type 0
+FailsBy true before after = (before ≤ after) × Rose before after × StaysFull before after
+FailsBy false before after = after ≡ before
+
+-- what is told once these bytes were added at its end
+abbrev pub appended : Option (List ℕ) → List ℕ → Option (List ℕ)
+appended None bytes = None
+appended (Some written) bytes = Some (written ++ bytes)
+
+-- a prefix of the bytes that lacks at least one of them was added
+abbrev pub CutShort : List ℕ → Option (List ℕ) → Option (List ℕ) → Type 0
+CutShort bytes before after = (k : ℕ) × (k < length bytes) × (after ≡ appended before (take k bytes))

@@ -1,0 +1,4 @@
+pub mod Counted
+pub mod Opens
+pub mod World
+pub mod InMemory

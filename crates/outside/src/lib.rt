@@ -1,0 +1,19 @@
+//! What the engine meets outside itself: files that are read, sinks that are written, and gates
+//! round a worker's pieces. Each object counts its own faults, so that a contract can tell whose
+//! fault an answer comes from.
+#![tactic(auto)]
+
+mod failing;
+mod gate;
+mod input;
+mod mem_sink;
+mod shared_bytes;
+mod sink;
+mod steady;
+
+pub use failing::MemInputs;
+pub use gate::{FreeGate, Gate};
+pub use input::{InputFile, Inputs, OpenFault};
+pub use mem_sink::MemSink;
+pub use sink::{Failed, Sink, write_all};
+pub use steady::{MemFile, SteadyInputs};
