@@ -1,6 +1,5 @@
 -- What contracts see of the objects that stand in memory.
-use Rattle.std.specs.Prelude.{◌≡◌, ◌≤◌, ◌<◌, ◌⊎◌, ◌-◌, ◌+◌, ◌^◌, ℕ, List, length, map, min, nat_lt, if◌then◌else◌}
-use Rattle.std.specs.declared.vec.Vec.{Vec}
+use Rattle.std.specs.Prelude.{◌≤◌, ◌<◌, ◌≡◌, ◌⊎◌, ◌-◌, ◌+◌, ◌^◌, ℕ, List, Vec, length, map, min, nat_lt, if◌then◌else◌}
 use Rattle.outside.specs.World.{World}
 
 -- a counter's next value: one more, and after its last value that value again
@@ -17,6 +16,25 @@ pub record SteadyFiles : Type 0 where
   pub misses : ℕ
   pub opened : ℕ
   pub closed : ℕ
+
+-- files of which some opens fail, and some calls: each a pair of the open's number and the call's on its file
+pub record FailingFiles : Type 0 where
+  pub files : World
+  pub failing_opens : List ℕ
+  pub failing_calls : List (ℕ × ℕ)
+  pub opens : ℕ
+  pub faults : ℕ
+  pub misses : ℕ
+  pub opened : ℕ
+  pub closed : ℕ
+
+-- an open file of these: its bytes, the number of its open, which calls fail, and how many there were
+pub record FailingBytes : Type 0 where
+  pub held : List ℕ
+  pub number : ℕ
+  pub failing_calls : List (ℕ × ℕ)
+  pub calls : ℕ
+  pub faults : ℕ
 
 -- a sink with a room, which takes at most so many bytes at once
 pub record BoundedSink : Type 0 where

@@ -2,3 +2,4 @@ pub mod Counted
 pub mod Opens
 pub mod World
 pub mod InMemory
+pub mod AfterCalls

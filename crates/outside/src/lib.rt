@@ -3,15 +3,17 @@
 //! fault an answer comes from.
 #![tactic(auto)]
 
+mod count;
 mod failing;
 mod gate;
 mod input;
 mod mem_sink;
+mod memory;
 mod shared_bytes;
 mod sink;
 mod steady;
 
-pub use failing::MemInputs;
+pub use failing::{FailingFile, Fails, MemInputs};
 pub use gate::{FreeGate, Gate};
 pub use input::{InputFile, Inputs, OpenFault};
 pub use mem_sink::MemSink;

@@ -1,6 +1,7 @@
 ghost use Rattle.std.specs.Prelude.{◌≡◌, ◌<◌, ◌≤◌, ◌-◌, ◌↔◌, [], ◌++◌, length, take, min, IfOk, OnErr, IsErr};
 ghost use Rattle.outside.specs.InMemory.{BoundedSink, IsStuck, count_up};
 
+use crate::count::count_up;
 use crate::{Failed, Sink};
 use item_tree::NoMemory;
 use std::alloc::Global;
@@ -69,7 +70,7 @@ impl Sink for MemSink {
         let left = self.room - self.bytes.len();
         let count = self.most.min(left).min(bytes.len());
         if count == 0 && !bytes.is_empty() {
-            self.faults = self.faults.saturating_add(1);
+            self.faults = count_up(self.faults);
             return Err(Failed);
         }
         if self.bytes.extend_from_slice(&bytes[..count]).is_err() {

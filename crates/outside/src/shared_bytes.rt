@@ -1,5 +1,4 @@
-ghost use Rattle.std.specs.Prelude.{◌≡◌, ◌≤◌, IfOk, length};
-ghost use Rattle.outside.specs.World.{Reads};
+ghost use Rattle.std.specs.Prelude.{◌≡◌, ◌-◌, ◌++◌, IfOk, length, take, drop, min};
 
 use item_tree::NoMemory;
 use std::alloc::Global;
@@ -49,8 +48,8 @@ impl SharedBytes {
 
     /// Reads as many bytes from this place on as there are and as the slice has room for.
     pub(crate) fn read_at(&self, at: u64, into: &mut [u8]) -> usize
-        ensures within { result ≤ length into.old }
-        ensures bytes { Reads self.now at result into.old into.new }
+        ensures count { result ≡ min (length self.now - at) (length into.old) }
+        ensures bytes { into.new ≡ take result (drop at self.now) ++ drop result into.old }
     {
         let bytes = self.bytes.as_slice();
         if at >= bytes.len() as u64 {

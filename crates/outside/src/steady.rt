@@ -1,8 +1,11 @@
-ghost use Rattle.std.specs.Prelude.{◌≡◌, IfOk, MatchOption, None, Some, true};
-ghost use Rattle.std.specs.Str.{chars, bytes_eq};
-ghost use Rattle.outside.specs.World.{World, file_of, NamesDiffer};
-ghost use Rattle.outside.specs.InMemory.{SteadyFiles, world_of};
+ghost use Rattle.std.specs.Prelude.{◌≡◌, ◌-◌, ◌++◌, IfOk, Ok, IsErrOf, None, Some, length, take, drop, min};
+ghost use Rattle.std.specs.Str.{chars};
+ghost use Rattle.outside.specs.World.{file_of};
+ghost use Rattle.outside.specs.InMemory.{world_of};
+ghost use Rattle.outside.specs.AfterCalls.{after_steady_open, after_steady_close};
 
+use crate::count::count_up;
+use crate::memory::{find, shared};
 use crate::shared_bytes::SharedBytes;
 use crate::{Failed, InputFile, Inputs, OpenFault};
 use item_tree::{NoMemory, Str};
@@ -26,7 +29,7 @@ impl Model for SteadyInputs {
     ghost view = { λ s. record { files = s.files.items; misses = s.misses; opened = s.opened; closed = s.closed } };
 }
 
-/// An open file of these.
+/// An open file of these, seen as its bytes.
 #[derive(Drop)]
 pub struct MemFile {
     bytes: SharedBytes,
@@ -38,42 +41,6 @@ impl Model for MemFile {
     ghost Value = { List ℕ };
 
     ghost view = { λ f. f.bytes };
-}
-
-// Whether a file's name is this text.
-fn is_named(file: &Str, name: &str) -> bool
-    ensures { result ≡ bytes_eq file.now (chars name.now) }
-{
-    file.as_str() == name
-}
-
-/// The bytes of the first file of this name.
-pub(crate) fn find<'a>(files: &'a [(Str, SharedBytes)], name: &str) -> Option<&'a SharedBytes>
-    ensures { MatchOption result (file_of files.now (chars name.now) ≡ None) (λ b. file_of files.now (chars name.now) ≡ Some b.now) }
-{
-    for file in files {
-        if is_named(&file.0, name) {
-            return Some(&file.1);
-        }
-    }
-    None
-}
-
-/// The same files, whose bytes can now be shared.
-pub(crate) fn shared(
-    alloc: Global,
-    files: Vec<(Str, Vec<u8>)>,
-) -> Result<Vec<(Str, SharedBytes)>, NoMemory>
-    ensures { IfOk result (λ s. s.items ≡ world_of files.items) }
-{
-    let mut made = Vec::new(alloc);
-    for (name, bytes) in files {
-        let bytes = SharedBytes::new(alloc, bytes)?;
-        if made.push((name, bytes)).is_err() {
-            return Err(NoMemory);
-        }
-    }
-    Ok(made)
 }
 
 impl SteadyInputs {
@@ -92,17 +59,22 @@ impl SteadyInputs {
 }
 
 impl InputFile for MemFile {
-    ghost use Rattle.std.specs.Prelude.{Some};
-
     ghost held = { λ f. Some f };
 
     ghost faults = { λ f. 0 };
 
-    fn len(&mut self) -> Result<u64, Failed> {
+    fn len(&mut self) -> Result<u64, Failed>
+        ensures value { result ≡ Ok (length self.old) }
+        ensures same { self.new ≡ self.old }
+    {
         Ok(self.bytes.len())
     }
 
-    fn read_at(&mut self, at: u64, into: &mut [u8]) -> Result<usize, Failed> {
+    fn read_at(&mut self, at: u64, into: &mut [u8]) -> Result<usize, Failed>
+        ensures count { result ≡ Ok (min (length self.old - at) (length into.old)) }
+        ensures bytes { IfOk result (λ n. into.new ≡ take n (drop at self.old) ++ drop n into.old) }
+        ensures same { self.new ≡ self.old }
+    {
         Ok(self.bytes.read_at(at, into))
     }
 }
@@ -120,20 +92,27 @@ impl Inputs for SteadyInputs {
 
     ghost closed = { λ s. s.closed };
 
-    fn open_file(&mut self, name: &str) -> Result<MemFile, OpenFault> {
+    fn open_file(&mut self, name: &str) -> Result<MemFile, OpenFault>
+        ensures bytes { IfOk result (λ f. file_of self.old.files (chars name.now) ≡ Some f) }
+        ensures missing { IsErrOf result OpenFault.Missing → file_of self.old.files (chars name.now) ≡ None }
+        ensures never_fails { IsErrOf result OpenFault.Failed → ⊥ }
+        ensures after { self.new ≡ after_steady_open self.old result }
+    {
         let Some(bytes) = find(&self.files, name) else {
-            self.misses = self.misses.saturating_add(1);
+            self.misses = count_up(self.misses);
             return Err(OpenFault::Missing);
         };
         let Ok(bytes) = bytes.share() else {
             return Err(OpenFault::NoMemory);
         };
-        self.opened = self.opened.saturating_add(1);
+        self.opened = count_up(self.opened);
         Ok(MemFile { bytes })
     }
 
-    fn close_file(&mut self, file: MemFile) {
-        self.closed = self.closed.saturating_add(1);
+    fn close_file(&mut self, file: MemFile)
+        ensures { self.new ≡ after_steady_close self.old }
+    {
+        self.closed = count_up(self.closed);
         drop(file);
     }
 }

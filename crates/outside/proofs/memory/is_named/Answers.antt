@@ -1,7 +1,7 @@
 use Rattle.std.proofs.Common.{◌≡◌, ◌∙◌, ap}
 use Rattle.std.specs.Str.{chars, bytes_eq}
 use Rattle.outside.proofs.Names.{bytes_eq-chars}
-use Rattle.outside.proofs.steady.is_named.Goals as goal
+use Rattle.outside.proofs.memory.is_named.Goals as goal
 
 pub returns : goal.returns
 returns c =

@@ -1,0 +1,41 @@
+ghost use Rattle.std.specs.Prelude.{◌≡◌, ◌↔◌, IfOk, IsTrue, MatchOption, None, Some};
+ghost use Rattle.std.specs.Str.{chars, bytes_eq};
+ghost use Rattle.outside.specs.World.{file_of, NamesDiffer};
+ghost use Rattle.outside.specs.InMemory.{world_of};
+
+use crate::shared_bytes::SharedBytes;
+use item_tree::{NoMemory, Str};
+use std::alloc::Global;
+
+// Whether a file's name is this text.
+fn is_named(file: &Str, name: &str) -> bool
+    ensures { result ≡ bytes_eq file.now (chars name.now) }
+{
+    file.as_str() == name
+}
+
+/// The bytes of the first file of this name.
+pub(crate) fn find<'a>(files: &'a [(Str, SharedBytes)], name: &str) -> Option<&'a SharedBytes>
+    ensures { MatchOption result (file_of files.now (chars name.now) ≡ None) (λ b. file_of files.now (chars name.now) ≡ Some b.now) }
+{
+    for file in files {
+        if is_named(&file.0, name) {
+            return Some(&file.1);
+        }
+    }
+    None
+}
+
+/// The same files, whose bytes can now be shared.
+pub(crate) fn shared(alloc: Global, files: Vec<(Str, Vec<u8>)>) -> Result<Vec<(Str, SharedBytes)>, NoMemory>
+    ensures { IfOk result (λ s. s.items ≡ world_of files.items) }
+{
+    let mut made = Vec::new(alloc);
+    for (name, bytes) in files {
+        let bytes = SharedBytes::new(alloc, bytes)?;
+        if made.push((name, bytes)).is_err() {
+            return Err(NoMemory);
+        }
+    }
+    Ok(made)
+}
