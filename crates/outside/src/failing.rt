@@ -79,7 +79,11 @@ impl Fails {
 
 impl MemInputs {
     /// Files whose names differ. All counts begin at 0.
-    pub fn new(alloc: Global, files: Vec<(Str, Vec<u8>)>, fails: Fails) -> Result<MemInputs, NoMemory>
+    pub fn new(
+        alloc: Global,
+        files: Vec<(Str, Vec<u8>)>,
+        fails: Fails,
+    ) -> Result<MemInputs, NoMemory>
         requires { NamesDiffer (world_of files.items) }
         ensures { IfOk result (λ s. s ≡ record { files = world_of files.items; failing_opens = fails.opens.items; failing_calls = fails.calls.items; opens = 0; faults = 0; misses = 0; opened = 0; closed = 0 }) }
     {

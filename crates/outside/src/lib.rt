@@ -17,5 +17,9 @@ pub use failing::{FailingFile, Fails, MemInputs};
 pub use gate::{FreeGate, Gate};
 pub use input::{InputFile, Inputs, OpenFault};
 pub use mem_sink::MemSink;
+pub use memory::names_differ;
 pub use sink::{Failed, Sink, write_all};
 pub use steady::{MemFile, SteadyInputs};
+
+#[cfg(test)]
+mod tests;
