@@ -1,20 +1,15 @@
 -- The lines of an input, in the manner of JSON Lines.
 use Rattle.std.specs.Prelude.{ℕ, ◌+◌, ◌==◌, nat_eq, Bool, not, ◌||◌, List, [], ◌∷◌, length, drop, filter, if◌then◌else◌}
-use Rattle.std.specs.List.{list_all, starts_with}
+use Rattle.std.specs.List.{list_all, slice_split, starts_with}
 
 -- a line, and the offset of its first byte in the input
 pub record Line : Type 0 where
   pub at : ℕ
   pub bytes : List ℕ
 
-abbrev pub put_first : ℕ → List (List ℕ) → List (List ℕ)
-put_first b [] = (b ∷ []) ∷ []
-put_first b (l ∷ ls) = (b ∷ l) ∷ ls
-
 -- what stands between the LFs, one more than there are LFs
 abbrev pub cut : List ℕ → List (List ℕ)
-cut [] = [] ∷ []
-cut (b ∷ bs) = if b == 10 then [] ∷ cut bs else put_first b (cut bs)
+cut input = slice_split (λ b. b == 10) input
 
 -- the lines with their offsets, the first of which stands at this one; an LF stands between two
 abbrev pub placed : ℕ → List (List ℕ) → List Line

@@ -1,0 +1,74 @@
+-- What a call of the program leaves, by the status that it ends with.
+use Rattle.std.specs.Prelude.{◌≡◌, ◌<◌, ◌≤◌, ◌⊎◌, ◌+◌, ◌-◌, ◌^◌, ℕ, List, [], ◌∷◌, ◌++◌, Option, Some, IfSome, codes}
+use Rattle.std.specs.Fmt.{decimal}
+use Rattle.std.specs.Str.{encode_utf8_all}
+use Rattle.item_tree.specs.declared.code.Code.{Code}
+use Rattle.item_tree.specs.Codes.{code_text}
+use Rattle.outside.specs.Counted.{Rose, RoseByOne, appended, CutShort}
+use Rattle.outside.specs.World.{World}
+use Rattle.rumble_run.specs.Answer.{Answer, lined, usage}
+use Rattle.rumble_run.specs.declared.status.Status.{Status}
+use Rattle.rumble_run.specs.declared.status.Status.TheVariants.{Done, Raised, Refused, Usage, ReadFault, WriteFault, NoMemory, NoQuery}
+
+-- the status is the answer's; or writing its output failed, reading failed, or memory was short
+abbrev pub StatusBy : Answer → Status → Type 0
+StatusBy a WriteFault = a.status ≡ Done
+StatusBy a ReadFault = Unit {0}
+StatusBy a NoMemory = Unit {0}
+StatusBy a status = a.status ≡ status
+
+-- all of the text is on the output, or a prefix of it that lacks a byte, or nothing
+abbrev pub OutBy : List ℕ → Status → Option (List ℕ) → Option (List ℕ) → Type 0
+OutBy text Done before after = after ≡ appended before text
+OutBy text WriteFault before after = CutShort text before after
+OutBy text _ before after = after ≡ before
+
+-- the text for the errors, given the answer's
+abbrev pub err_by : List ℕ → Status → List ℕ
+err_by text ReadFault = lined (codes "read fault")
+err_by text WriteFault = lined (codes "write fault")
+err_by text NoMemory = lined (codes "no memory")
+err_by text _ = text
+
+-- a text in the form `WORD CODE at LINE:COLUMN`
+abbrev pub TellsFault : List ℕ → List ℕ → Type 0
+TellsFault word text =
+    (code : Code) × (line : ℕ) × (column : ℕ) × (text ≡ lined (word ++ (code_text code ++ codes " at " ++ (decimal line ++ 58 ∷ decimal column))))
+
+-- the form of the text for the errors that a status has, whatever the world; the name is the query's
+abbrev pub HasText : Option (List ℕ) → List ℕ → Status → Type 0
+HasText name text Done = text ≡ []
+HasText name text Raised = TellsFault (codes "raised ") text
+HasText name text Refused = TellsFault (codes "refused ") text
+HasText name text Usage = text ≡ usage.err
+HasText name text ReadFault = text ≡ lined (codes "read fault")
+HasText name text WriteFault = text ≡ lined (codes "write fault")
+HasText name text NoMemory = text ≡ lined (codes "no memory")
+HasText name text NoQuery = (query : List ℕ) × (name ≡ Some query) × (text ≡ lined (codes "no query " ++ encode_utf8_all query))
+
+-- the text is added whole and no fault is counted, or it is cut short and one is
+abbrev pub Wrote : List ℕ → Option (List ℕ) → Option (List ℕ) → ℕ → ℕ → Type 0
+Wrote text before after faults faults_after =
+    ((after ≡ appended before text) × (faults_after ≡ faults))
+    ⊎ (CutShort text before after × Rose faults faults_after)
+
+-- as many files were closed as were opened
+pub record IsBalanced (opened closed opened_after closed_after : ℕ) : Type 0 where
+  pub opened_rises : opened ≤ opened_after
+  pub closed_rises : closed ≤ closed_after
+  pub same : opened_after < 2 ^ 64 - 1 → closed_after < 2 ^ 64 - 1 → opened_after + closed ≡ opened + closed_after
+
+-- a count of faults that did not rise
+abbrev pub Calm : ℕ → ℕ → Type 0
+Calm before after = (after ≤ before) × (after < 2 ^ 64 - 1)
+
+-- where no object that was handed in failed, the call ends with the answer's status, or for want of memory
+abbrev pub Completes : Option World → (World → Answer) → Status → Type 0
+Completes world answers status = IfSome world (λ w. (status ≡ NoMemory) ⊎ (status ≡ (answers w).status))
+
+-- which files were looked for: with a refusal the query's alone, which was there; with a missing query that one; without a command none
+abbrev pub OpensBy : Status → ℕ → ℕ → ℕ → ℕ → Type 0
+OpensBy Refused opened opened_after misses misses_after = RoseByOne opened opened_after × (misses_after ≡ misses)
+OpensBy Usage opened opened_after misses misses_after = (opened_after ≡ opened) × (misses_after ≡ misses)
+OpensBy NoQuery opened opened_after misses misses_after = (opened_after ≡ opened) × Rose misses misses_after
+OpensBy _ opened opened_after misses misses_after = Unit {0}

@@ -1,0 +1,43 @@
+-- How contracts see an ending.
+use Rattle.std.specs.Prelude.{◌≡◌, ℕ, List, [], Option, None, string_bytes}
+use Rattle.outside.specs.Counted.{Rose}
+use Rattle.rumble_run.specs.Answer.{Answer}
+use Rattle.rumble_run.specs.Ends.{HasText}
+use Rattle.rumble_run.specs.declared.status.Status.{Status}
+use Rattle.rumble_run.specs.declared.status.Status.TheVariants.{Done, Raised, Refused, Usage, ReadFault, WriteFault, NoMemory}
+use Rattle.rumble_run.specs.declared.ending.Ending.{Ending}
+
+-- the ending as an answer
+abbrev pub answer_of : Ending → Answer
+answer_of e = record { status = e.status; out = e.out.items; err = string_bytes e.err }
+
+-- only Done has output, and an ending that was decided is no fault of reading, writing or memory
+abbrev pub IsSilent : List ℕ → Status → Type 0
+IsSilent out Done = Unit {0}
+IsSilent out ReadFault = ⊥
+IsSilent out WriteFault = ⊥
+IsSilent out NoMemory = ⊥
+IsSilent out _ = out ≡ []
+
+-- usage is for words outside the table alone
+abbrev pub IsUsage : Option (List ℕ) → Status → Type 0
+IsUsage name Usage = name ≡ None
+IsUsage name _ = Unit {0}
+
+-- an ending that was decided: its text has its status's form, only Done has output, and no fault is among them
+pub record IsShaped (name : Option (List ℕ)) (a : Answer) : Type 0 where
+  pub text : HasText name a.err a.status
+  pub silent : IsSilent a.out a.status
+  pub usage : IsUsage name a.status
+
+-- what a query that was read comes to: items, or a fault or a refusal with its code
+abbrev pub IsOfQuery : List ℕ → List ℕ → Status → Type 0
+IsOfQuery out err Done = HasText None err Done
+IsOfQuery out err Raised = HasText None err Raised × (out ≡ [])
+IsOfQuery out err Refused = HasText None err Refused × (out ≡ [])
+IsOfQuery out err _ = ⊥
+
+-- the status that an ending comes to: its own, or that writing Done's output failed
+abbrev pub EndsAs : Status → Status → ℕ → ℕ → Type 0
+EndsAs status WriteFault before after = (status ≡ Done) × Rose before after
+EndsAs status result before after = (result ≡ status) × (after ≡ before)

@@ -1,0 +1,32 @@
+use crate::status::{Status, Stop};
+use std::alloc::{AllocError, AllocFailed};
+
+/// What a command line comes to: a status, with the bytes for the output and the text for the errors.
+#[derive(Debug, Drop)]
+pub(crate) struct Ending {
+    pub status: Status,
+    pub out: Vec<u8>,
+    pub err: String,
+}
+
+impl From<AllocError> for Stop {
+    ghost use Rattle.std.specs.Prelude.{◌≡◌};
+    ghost use Rattle.rumble_run.specs.declared.status.Stop.TheVariants.{NoMemory};
+
+    ghost from_gives = { λ _ e. e ≡ NoMemory };
+
+    fn from(_e: AllocError) -> Stop {
+        Stop::NoMemory
+    }
+}
+
+impl<T: Drop> From<AllocFailed<T>> for Stop {
+    ghost use Rattle.std.specs.Prelude.{◌≡◌};
+    ghost use Rattle.rumble_run.specs.declared.status.Stop.TheVariants.{NoMemory};
+
+    ghost from_gives = { λ _ e. e ≡ NoMemory };
+
+    fn from(_e: AllocFailed<T>) -> Stop {
+        Stop::NoMemory
+    }
+}

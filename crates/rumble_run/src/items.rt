@@ -1,0 +1,68 @@
+ghost use Rattle.std.specs.Prelude.{◌≡◌, ◌≤◌, [], ◌∷◌, ◌++◌, length, ◌==◌, position, Ok, Err, IfOk, IfErr, IfSome, OnOk, option_copied};
+ghost use Rattle.item_tree.specs.Item.{datums};
+ghost use Rattle.item_reader.specs.Lines.{cut, without_mark};
+ghost use Rattle.item_reader.specs.Reading.{items_of};
+ghost use Rattle.item_reader.specs.Faults.{code_of};
+ghost use Rattle.rumble_run.specs.Cuts.{lines_of, left_length};
+ghost use Rattle.rumble_run.specs.Integers.{AreIntegers};
+
+use item_reader::{LineFault, read_item};
+use item_tree::Item;
+use std::alloc::Global;
+
+/// The byte order mark of UTF-8.
+const MARK: &[u8] = b"\xef\xbb\xbf";
+
+fn without_mark(input: &[u8]) -> &[u8]
+    ensures { result.now ≡ without_mark input.now }
+{
+    match input.strip_prefix(MARK) {
+        Some(rest) => rest,
+        None => input,
+    }
+}
+
+fn first_line_feed(input: &[u8]) -> Option<usize>
+    ensures { result ≡ position (λ b. b == 10) input.now }
+{
+    input.iter().position(|b| *b == b'\n')
+}
+
+// The first line, and what stands behind its line feed, where it has one.
+fn split_line(input: &[u8]) -> (&[u8], Option<&[u8]>)
+    ensures line { cut input.now ≡ result.0.now ∷ lines_of (option_copied result.1) }
+    ensures shorter { left_length (option_copied result.1) ≤ length input.now }
+{
+    match first_line_feed(input) {
+        Some(end) => (&input[..end], Some(&input[end + 1..])),
+        None => (input, None),
+    }
+}
+
+fn keep(items: &mut Vec<Item>, item: Item) -> Result<(), LineFault>
+    ensures ok { OnOk result (items.new.items ≡ items.old.items ++ item ∷ []) }
+    ensures err { IfErr result (λ fault. fault ≡ LineFault.NoMemory) }
+{
+    match items.push(item) {
+        Ok(()) => Ok(()),
+        Err(_) => Err(LineFault::NoMemory),
+    }
+}
+
+/// The items of an input's lines in order, or the fault of the first line that has one.
+pub(crate) fn read_items(alloc: Global, input: &[u8]) -> Result<Vec<Item>, LineFault>
+    ensures items { IfOk result (λ v. items_of input.now ≡ Ok (datums v.items)) }
+    ensures integers { IfOk result (λ v. AreIntegers (datums v.items)) }
+    ensures fault { IfErr result (λ f. IfSome (code_of f) (λ c. items_of input.now ≡ Err c)) }
+{
+    let mut items = Vec::new(alloc);
+    let mut left = Some(without_mark(input));
+    'reading: while let Some(bytes) = left {
+        let (line, behind) = split_line(bytes);
+        if let Some(item) = read_item(alloc, line)? {
+            keep(&mut items, item)?;
+        }
+        left = behind;
+    }
+    Ok(items)
+}

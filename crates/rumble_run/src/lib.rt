@@ -1,0 +1,81 @@
+//! The program as one call: the words of a command line and the objects that it may touch go in, and
+//! a status comes out.
+#![tactic(auto)]
+
+ghost use Rattle.std.specs.Prelude.{◌≡◌, ◌≢◌, ◌≤◌, ◌<◌, ◌⊎◌, ℕ, List, None, IfSome};
+ghost use Rattle.outside.specs.Counted.{Rose};
+ghost use Rattle.rumble_run.specs.Answer.{answer, query_of};
+ghost use Rattle.rumble_run.specs.Ends.{StatusBy, OutBy, err_by, HasText, Wrote, IsBalanced, Calm, Completes, OpensBy};
+
+mod decide;
+mod ending;
+mod finish;
+mod front;
+mod items;
+mod place;
+mod print;
+mod read;
+mod status;
+mod words;
+
+pub use status::Status;
+
+use crate::decide::decide;
+use crate::finish::{finish, tell};
+use crate::status::Stop;
+use item_tree::Str;
+use outside::{Gate, Inputs, Sink};
+use std::alloc::Global;
+use std::sync::Wait;
+use std::thread::Threads;
+
+/// Does what the words ask, and answers how it ended.
+///
+/// The words do not include the program's own name. The result is written to `out`, whole or, where
+/// a write fails, a part of it; what there is to tell is written to `err`. The answer is that of the
+/// definition, whatever the sizes of reads and writes.
+pub fn rumble<R: Threads + Wait + Sync, I: Inputs, O: Sink, E: Sink, G: Gate>(
+    _rt: &R,
+    alloc: Global,
+    words: &[Str],
+    inputs: &mut I,
+    out: &mut O,
+    err: &mut E,
+    _gate: &G,
+) -> Status
+    // Over inputs that tell their bytes, the run ends with the definition's answer.
+    ensures status { IfSome (I.world inputs.old) (λ w. StatusBy (answer words.now w) result) }
+    ensures output { IfSome (I.world inputs.old) (λ w. OutBy (answer words.now w).out result (O.wrote out.old) (O.wrote out.new)) }
+    ensures text { IfSome (I.world inputs.old) (λ w. Wrote (err_by (answer words.now w).err result) (E.wrote err.old) (E.wrote err.new) (E.faults err.old) (E.faults err.new)) }
+    ensures completes { Calm (I.faults inputs.old) (I.faults inputs.new) → Calm (O.faults out.old) (O.faults out.new) → Completes (I.world inputs.old) (answer words.now) result }
+
+    // Over any others, what is written has the status's form.
+    ensures untold_output { (bytes : List ℕ) × OutBy bytes result (O.wrote out.old) (O.wrote out.new) }
+    ensures untold_text { (text : List ℕ) × HasText (query_of words.now) text result × Wrote text (E.wrote err.old) (E.wrote err.new) (E.faults err.old) (E.faults err.new) }
+
+    // When each fault is answered.
+    ensures usage { result ≡ Status.Usage → query_of words.now ≡ None }
+    ensures only_usage { query_of words.now ≡ None → (result ≡ Status.Usage) ⊎ (result ≡ Status.NoMemory) }
+    ensures no_query { result ≡ Status.NoQuery → Rose (I.misses inputs.old) (I.misses inputs.new) }
+    ensures read_fault { result ≡ Status.ReadFault → Rose (I.faults inputs.old) (I.faults inputs.new) }
+    ensures read_first { I.faults inputs.old < I.faults inputs.new → (result ≡ Status.ReadFault) ⊎ (result ≡ Status.NoMemory) }
+    ensures write_fault { result ≡ Status.WriteFault → Rose (O.faults out.old) (O.faults out.new) }
+    ensures out_calm { result ≢ Status.WriteFault → O.faults out.new ≡ O.faults out.old }
+
+    // Which files were opened, and that each was closed.
+    ensures opens { OpensBy result (I.opened inputs.old) (I.opened inputs.new) (I.misses inputs.old) (I.misses inputs.new) }
+    ensures closed { IsBalanced (I.opened inputs.old) (I.closed inputs.old) (I.opened inputs.new) (I.closed inputs.new) }
+    ensures world { I.world inputs.new ≡ I.world inputs.old }
+{
+    match decide(alloc, words, inputs) {
+        Ok(ending) => finish(&ending, out, err),
+        Err(Stop::ReadFault) => {
+            tell(err, "read fault\n");
+            Status::ReadFault
+        }
+        Err(Stop::NoMemory) => {
+            tell(err, "no memory\n");
+            Status::NoMemory
+        }
+    }
+}

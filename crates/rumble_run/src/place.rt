@@ -1,0 +1,46 @@
+ghost use Rattle.std.specs.Prelude.{◌≡◌, ◌≤◌, ◌==◌, not, length, count_by, reverse, take_while};
+ghost use Rattle.rumble_run.specs.Place.{begins_character, line_of, column_of};
+
+/// A place in a text, as it is printed: both numbers count from 1, and the column counts characters.
+#[derive(Clone, Copy, Debug)]
+pub(crate) struct LineColumn {
+    pub line: u64,
+    pub column: u64,
+}
+
+/// Where the byte of this offset stands.
+pub(crate) fn line_column(text: &[u8], offset: u32) -> LineColumn
+    ensures line { result.line ≡ line_of text.now offset }
+    ensures column { result.column ≡ column_of text.now offset }
+{
+    let offset = (offset as usize).min(text.len());
+    let before = &text[..offset];
+    LineColumn {
+        line: line_feeds(before) as u64 + 1,
+        column: last_characters(before) as u64 + 1,
+    }
+}
+
+fn line_feeds(text: &[u8]) -> usize
+    ensures { result ≡ count_by (λ b. b == 10) text.now }
+{
+    text.iter().filter(|b| **b == b'\n').count()
+}
+
+// Whether a byte is the first of a character.
+fn begins_character(byte: u8) -> bool
+    ensures { result ≡ begins_character byte }
+{
+    byte < 128 || byte >= 192
+}
+
+// How many characters stand behind the last line feed.
+fn last_characters(text: &[u8]) -> usize
+    ensures { result ≡ count_by begins_character (take_while (λ b. not (b == 10)) (reverse text.now)) }
+{
+    text.iter()
+        .rev()
+        .take_while(|b| **b != b'\n')
+        .filter(|b| begins_character(**b))
+        .count()
+}

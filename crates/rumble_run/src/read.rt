@@ -1,0 +1,60 @@
+ghost use Rattle.std.specs.Prelude.{◌≡◌, ◌≤◌, IfOk, IfSome, option_map};
+ghost use Rattle.std.specs.Str.{chars};
+ghost use Rattle.outside.specs.Counted.{Rose};
+ghost use Rattle.outside.specs.World.{file_of};
+ghost use Rattle.rumble_run.specs.Ends.{IsBalanced};
+ghost use Rattle.rumble_run.specs.Reads.{CausedBy, MissedBy, OpenedBy};
+
+use crate::status::Stop;
+use outside::{InputFile, Inputs, OpenFault};
+use std::alloc::Global;
+
+// All bytes of a file. A read that gives none before the length ends the file there.
+fn read_whole<F: InputFile>(alloc: Global, file: &mut F) -> Result<Vec<u8>, Stop>
+    ensures bytes { IfOk result (λ v. IfSome (F.held file.old) (λ b. v.items ≡ b)) }
+    ensures cause { CausedBy result (F.faults file.old) (F.faults file.new) }
+    ensures rises { F.faults file.old ≤ F.faults file.new }
+{
+    let Ok(length) = file.len() else {
+        return Err(Stop::ReadFault);
+    };
+    let mut bytes = Vec::new(alloc);
+    let mut buffer = [0u8; 4096];
+    'reading: while (bytes.len() as u64) < length {
+        let Ok(count) = file.read_at(bytes.len() as u64, &mut buffer) else {
+            return Err(Stop::ReadFault);
+        };
+        if count == 0 {
+            return Ok(bytes);
+        }
+        if bytes.extend_from_slice(&buffer[..count]).is_err() {
+            return Err(Stop::NoMemory);
+        }
+    }
+    Ok(bytes)
+}
+
+/// All bytes of the file of this name, where there is one.
+pub(crate) fn read_named<I: Inputs>(alloc: Global, inputs: &mut I, name: &str) -> Result<Option<Vec<u8>>, Stop>
+    ensures world { I.world inputs.new ≡ I.world inputs.old }
+    ensures bytes { IfOk result (λ o. IfSome (I.world inputs.old) (λ w. option_map (λ v. v.items) o ≡ file_of w (chars name.now))) }
+    ensures cause { CausedBy result (I.faults inputs.old) (I.faults inputs.new) }
+    ensures rises { I.faults inputs.old ≤ I.faults inputs.new }
+    ensures missed { MissedBy result (I.misses inputs.old) (I.misses inputs.new) }
+    ensures opened { OpenedBy result (I.opened inputs.old) (I.opened inputs.new) }
+    ensures balanced { IsBalanced (I.opened inputs.old) (I.closed inputs.old) (I.opened inputs.new) (I.closed inputs.new) }
+{
+    match inputs.open_file(name) {
+        Ok(mut file) => {
+            let bytes = read_whole(alloc, &mut file);
+            inputs.close_file(file);
+            match bytes {
+                Ok(bytes) => Ok(Some(bytes)),
+                Err(stop) => Err(stop),
+            }
+        }
+        Err(OpenFault::Missing) => Ok(None),
+        Err(OpenFault::Failed) => Err(Stop::ReadFault),
+        Err(OpenFault::NoMemory) => Err(Stop::NoMemory),
+    }
+}
