@@ -8,4 +8,3 @@ IsFront n bytes held = (n ≡ length held) × (length bytes ≤ length held) × 
 
 abbrev pub SoFar : Option (List ℕ) → ℕ → List ℕ → Type 0
 SoFar held n bytes = IfSome held (IsFront n bytes)
-

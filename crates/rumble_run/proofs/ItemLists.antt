@@ -104,6 +104,7 @@ unmarked-cut input = by (starts_with nat_eq input mark) refl
     lines_at : (ls : List (List ℕ)) → cut input ≡ ls → starts_with nat_eq input mark ≡ false → unmarked_first ls ≡ ls
     lines_at [] e without = refl
     lines_at (l ∷ ls) e without = ap (λ b. cond b (drop 3 l) l ∷ ls) (first_unmarked input l ls e without)
+
     by : (b : Bool) → starts_with nat_eq input mark ≡ b → unmarked_first (cut input) ≡ cut (without_mark input)
     by true e = subst (λ i. unmarked_first (cut i) ≡ cut (without_mark i)) (sym ((starts_mark input).0 e)) (marked (drop 3 input))
     by false e = lines_at (cut input) refl e ∙ ap (λ b. cut (cond b (drop 3 input) input)) (sym e)
@@ -172,7 +173,7 @@ pub past_item : (input line bytes : List ℕ) (items : List Item) (x : Item) (be
 past_item input line bytes items x behind h e r =
     let pushed : datums (items ++ x ∷ []) ≡ datums items ++ datum x ∷ [] = map-append datum items (x ∷ []) in record {
       whole = ap (λ xs. followed xs (items_of_cut (lines_of behind))) pushed ∙ followed-push (datums items) (datum x) (items_of_cut (lines_of behind))
-      ∙ ap (λ k. followed (datums items) (read_before k (items_of_cut (lines_of behind)))) (sym r) ∙ next_line input line bytes items behind h e;
+          ∙ ap (λ k. followed (datums items) (read_before k (items_of_cut (lines_of behind)))) (sym r) ∙ next_line input line bytes items behind h e;
       integers = subst AreIntegers (sym pushed) (AreIntegers-push (datums items) (datum x) h.integers (IsInteger-reading line (datum x) r));
     }
 

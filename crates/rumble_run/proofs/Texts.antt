@@ -28,6 +28,7 @@ first-encoded (d ∷ ds) c lt = same_from_decides _ _ (Decides-like _ there back
   where
     there : get_or (encode_utf8_all (d ∷ ds)) 0 0 ≡ c → d ≡ c
     there e = char_from_byte (encode_utf8_all (d ∷ ds)) (encode_utf8_all ds) d refl (rw e lt) (nonempty d ds) ∙ e
+
     back : d ≡ c → get_or (encode_utf8_all (d ∷ ds)) 0 0 ≡ c
     back e = rw e (ap (λ bs. get_or (bs ++ encode_utf8_all ds) 0 0) (encode_ascii c lt))
 

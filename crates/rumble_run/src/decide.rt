@@ -49,7 +49,13 @@ fn tells_no_query(alloc: Global, name: &Str) -> Result<Ending, AllocError>
 }
 
 // An ending that tells a fault of a query's text.
-fn tells_fault(alloc: Global, status: Status, word: &str, query: &[u8], fault: &Fault) -> Result<Ending, AllocError>
+fn tells_fault(
+    alloc: Global,
+    status: Status,
+    word: &str,
+    query: &[u8],
+    fault: &Fault,
+) -> Result<Ending, AllocError>
     ensures { IfOk result (λ e. answer_of e ≡ says status (word.now ++ fault_text query.now fault.now)) }
 {
     let code = fault.code.text();
@@ -87,7 +93,13 @@ fn of_input(alloc: Global, query: &[u8], input: Option<Vec<u8>>) -> Result<Endin
             },
         },
     };
-    Ok(tells_fault(alloc, Status::Raised, "raised ", query, &Fault { code, place: 0 })?)
+    Ok(tells_fault(
+        alloc,
+        Status::Raised,
+        "raised ",
+        query,
+        &Fault { code, place: 0 },
+    )?)
 }
 
 // What a query comes to over its inputs.
@@ -111,7 +123,11 @@ fn of_query<I: Inputs>(alloc: Global, query: &[u8], inputs: &mut I) -> Result<En
 }
 
 /// What a command line comes to. All of it is made in memory before anything is written.
-pub(crate) fn decide<I: Inputs>(alloc: Global, words: &[Str], inputs: &mut I) -> Result<Ending, Stop>
+pub(crate) fn decide<I: Inputs>(
+    alloc: Global,
+    words: &[Str],
+    inputs: &mut I,
+) -> Result<Ending, Stop>
     ensures world { I.world inputs.new ≡ I.world inputs.old }
     ensures value { IfOk result (λ e. IfSome (I.world inputs.old) (λ w. answer_of e ≡ answer words.now w)) }
     ensures shape { IfOk result (λ e. IsShaped (query_of words.now) (answer_of e)) }

@@ -7,6 +7,7 @@ use item_tree::{Code, Fault};
 
 /// What stands round the name in a query.
 const OPENING: &[u8] = b"json-lines(\"";
+
 const CLOSING: &[u8] = b"\")";
 
 fn is_name_byte(byte: u8) -> bool

@@ -16,15 +16,16 @@ mod place;
 mod print;
 mod read;
 mod status;
+#[cfg(test)]
+mod tests;
 mod words;
-
-pub use status::Status;
 
 use crate::decide::decide;
 use crate::finish::{finish, tell};
 use crate::status::Stop;
 use item_tree::Str;
 use outside::{Gate, Inputs, Sink};
+pub use status::Status;
 use std::alloc::Global;
 use std::sync::Wait;
 use std::thread::Threads;

@@ -35,7 +35,11 @@ fn read_whole<F: InputFile>(alloc: Global, file: &mut F) -> Result<Vec<u8>, Stop
 }
 
 /// All bytes of the file of this name, where there is one.
-pub(crate) fn read_named<I: Inputs>(alloc: Global, inputs: &mut I, name: &str) -> Result<Option<Vec<u8>>, Stop>
+pub(crate) fn read_named<I: Inputs>(
+    alloc: Global,
+    inputs: &mut I,
+    name: &str,
+) -> Result<Option<Vec<u8>>, Stop>
     ensures world { I.world inputs.new ≡ I.world inputs.old }
     ensures bytes { IfOk result (λ o. IfSome (I.world inputs.old) (λ w. option_map (λ v. v.items) o ≡ file_of w (chars name.now))) }
     ensures cause { CausedBy result (I.faults inputs.old) (I.faults inputs.new) }

@@ -1,6 +1,247 @@
 use crate::{Status, rumble};
-use item_tree::{NoMemory, Str};
-use outside::{Fails, FreeGate, MemInputs, MemSink};
+use item_tree::Str;
+use outside::{Fails, FreeGate, Inputs, MemInputs, MemSink, names_differ};
 use std::alloc::Global;
+use std::sync::Wait;
 use std::test::Fail;
+use std::thread::Threads;
 
+const USAGE: &str = "usage: rumble run QUERY | check QUERY | explain QUERY | trial NUMBER LINES\n";
+
+const ONE_QUERY: &str = "json-lines(\"a\")";
+
+/// What a run leaves.
+#[derive(Drop)]
+struct Outcome {
+    status: Status,
+    out: MemSink,
+    err: MemSink,
+}
+
+type Files = Vec<(Str, Vec<u8>)>;
+
+fn add(alloc: Global, files: &mut Files, name: &str, bytes: &[u8]) -> Result<(), Fail> {
+    files.push((Str::of(alloc, name)?, bytes.to_vec(alloc)?))?;
+    Ok(())
+}
+
+fn two_files(alloc: Global, query: &str, input: &[u8]) -> Result<Files, Fail> {
+    let mut files = Vec::new(alloc);
+    add(alloc, &mut files, "q", query.as_bytes())?;
+    add(alloc, &mut files, "a", input)?;
+    Ok(files)
+}
+
+fn texts(alloc: Global, words: &[&str]) -> Result<Vec<Str>, Fail> {
+    let mut texts = Vec::new(alloc);
+    for word in words {
+        texts.push(Str::of(alloc, word)?)?;
+    }
+    Ok(texts)
+}
+
+// A run over these inputs, whose sinks have so much room and take seven bytes at once.
+fn run<R: Threads + Wait + Sync, I: Inputs + Drop>(
+    rt: &R,
+    alloc: Global,
+    words: &[&str],
+    mut inputs: I,
+    room: (usize, usize),
+) -> Result<Outcome, Fail> {
+    let words = texts(alloc, words)?;
+    let mut out = MemSink::new(alloc, room.0, 7)?;
+    let mut err = MemSink::new(alloc, room.1, 7)?;
+    let status = rumble(
+        rt,
+        alloc,
+        &words,
+        &mut inputs,
+        &mut out,
+        &mut err,
+        &FreeGate,
+    );
+    Ok(Outcome { status, out, err })
+}
+
+// What each line of an input comes to, with the query that is built.
+#[test]
+fn runs_one_query(rt: HostRuntime) -> Result<(), Fail> {
+    let alloc = rt.alloc();
+    let cases: [(&[u8], Status, &str, &str); 9] = [
+        (b"12\n-0\n -7 ", Status::Done, "12\n0\n-7\n", ""),
+        (b"", Status::Done, "", ""),
+        (b"7", Status::Done, "7\n", ""),
+        (b"\xef\xbb\xbf1\r\n \n2", Status::Done, "1\n2\n", ""),
+        (
+            b"99999999999999999999\n-99999999999999999999\n",
+            Status::Done,
+            "99999999999999999999\n-99999999999999999999\n",
+            "",
+        ),
+        (b"1\n01", Status::Raised, "", "raised PJDY0099 at 1:1\n"),
+        (
+            b"99999999999999999999\n100000000000000000000",
+            Status::Raised,
+            "",
+            "raised PJDY0004 at 1:1\n",
+        ),
+        (
+            b"1\n100000000000000000000\n01\n",
+            Status::Raised,
+            "",
+            "raised PJDY0004 at 1:1\n",
+        ),
+        (
+            b"1\n\xef\xbb\xbf2\n",
+            Status::Raised,
+            "",
+            "raised PJDY0099 at 1:1\n",
+        ),
+    ];
+    for (input, status, out, err) in cases {
+        let files = two_files(alloc, ONE_QUERY, input)?;
+        assert!(rt; names_differ(&files));
+        let inputs = MemInputs::steady(alloc, files)?;
+        let left = run(&rt, alloc, &["run", "q"], inputs, (100, 100))?;
+        assert_eq!(rt; left.status, status, "at {input:?}");
+        assert_eq!(rt; left.out.bytes(), out.as_bytes(), "at {input:?}");
+        assert_eq!(rt; left.err.bytes(), err.as_bytes(), "at {input:?}");
+    }
+    Ok(())
+}
+
+// What each query comes to, over an input `a` and none other.
+#[test]
+fn refuses_and_misses(rt: HostRuntime) -> Result<(), Fail> {
+    let alloc = rt.alloc();
+    let refused = (Status::Refused, "refused PJST0099 at 1:1\n");
+    let missing = (Status::Raised, "raised FODC0002 at 1:1\n");
+    let cases = [
+        ("1", refused),
+        ("", refused),
+        ("json-lines(\"\")", refused),
+        ("json-lines(\"a b\")", refused),
+        ("json-lines(\"\u{fc}\")", refused),
+        ("json-lines(\"a\") ", refused),
+        (" json-lines(\"a\")", refused),
+        ("json-lines(\")", refused),
+        ("json-lines(\"none\")", missing),
+        ("json-lines(\"-a.b_C9\")", missing),
+    ];
+    for (query, (status, err)) in cases {
+        let files = two_files(alloc, query, b"1\n")?;
+        assert!(rt; names_differ(&files));
+        let inputs = MemInputs::steady(alloc, files)?;
+        let left = run(&rt, alloc, &["run", "q"], inputs, (100, 100))?;
+        assert_eq!(rt; left.status, status, "at {query}");
+        assert!(rt; left.out.bytes().is_empty(), "at {query}");
+        assert_eq!(rt; left.err.bytes(), err.as_bytes(), "at {query}");
+    }
+    Ok(())
+}
+
+// What each command line comes to.
+#[test]
+fn reads_the_words(rt: HostRuntime) -> Result<(), Fail> {
+    let alloc = rt.alloc();
+    let usage = (Status::Usage, USAGE);
+    let cases: [(&[&str], (Status, &str)); 9] = [
+        (&["run", "q"], (Status::Done, "")),
+        (&["run", "none"], (Status::NoQuery, "no query none\n")),
+        (
+            &["run", "Z\u{fc}rich"],
+            (Status::NoQuery, "no query Z\u{fc}rich\n"),
+        ),
+        (&["run"], usage),
+        (&[], usage),
+        (&["q"], usage),
+        (&["Run", "q"], usage),
+        (&["run", "-q"], usage),
+        (&["run", "q", "q"], usage),
+    ];
+    for (words, (status, err)) in cases {
+        let files = two_files(alloc, ONE_QUERY, b"")?;
+        assert!(rt; names_differ(&files));
+        let inputs = MemInputs::steady(alloc, files)?;
+        let left = run(&rt, alloc, words, inputs, (100, 100))?;
+        assert_eq!(rt; left.status, status, "at {words:?}");
+        assert_eq!(rt; left.err.bytes(), err.as_bytes(), "at {words:?}");
+    }
+    Ok(())
+}
+
+fn failing(alloc: Global, opens: &[u64], calls: &[(u64, u64)]) -> Result<Fails, Fail> {
+    Ok(Fails {
+        opens: opens.to_vec(alloc)?,
+        calls: calls.to_vec(alloc)?,
+    })
+}
+
+// Each open that fails, and on each of the two files each call in turn, until a run meets no failure.
+#[test]
+fn tells_failed_reads(rt: HostRuntime) -> Result<(), Fail> {
+    let alloc = rt.alloc();
+    let mut runs = 0;
+    let mut faults = Vec::new(alloc);
+    for open in 1..3u64 {
+        faults.push(failing(alloc, &[open], &[])?)?;
+        for call in 1..3u64 {
+            faults.push(failing(alloc, &[], &[(open, call)])?)?;
+        }
+    }
+    for fails in faults {
+        let files = two_files(alloc, ONE_QUERY, b"12\n")?;
+        assert!(rt; names_differ(&files));
+        let inputs = MemInputs::new(alloc, files, fails)?;
+        let left = run(&rt, alloc, &["run", "q"], inputs, (100, 100))?;
+        assert_eq!(rt; left.status, Status::ReadFault, "in run {runs}");
+        assert!(rt; left.out.bytes().is_empty(), "in run {runs}");
+        assert_eq!(rt;
+            left.err.bytes(),
+            b"read fault\n".as_slice(),
+            "in run {runs}"
+        );
+        runs += 1;
+    }
+    assert_eq!(rt; runs, 6);
+    Ok(())
+}
+
+// Calls past the last one that a run makes fail for nobody.
+#[test]
+fn meets_no_failure(rt: HostRuntime) -> Result<(), Fail> {
+    let alloc = rt.alloc();
+    let files = two_files(alloc, ONE_QUERY, b"12\n")?;
+    assert!(rt; names_differ(&files));
+    let fails = failing(alloc, &[3], &[(1, 3), (2, 3), (3, 1)])?;
+    let inputs = MemInputs::new(alloc, files, fails)?;
+    let left = run(&rt, alloc, &["run", "q"], inputs, (100, 100))?;
+    assert_eq!(rt; left.status, Status::Done);
+    assert_eq!(rt; left.out.bytes(), b"12\n".as_slice());
+    Ok(())
+}
+
+// Sinks without room: a prefix of the output, and of the text for the errors.
+#[test]
+fn tells_failed_writes(rt: HostRuntime) -> Result<(), Fail> {
+    let alloc = rt.alloc();
+    let cases = [
+        ("12\n", (1, 100), Status::WriteFault, "1", "write fault\n"),
+        ("12\n", (0, 100), Status::WriteFault, "", "write fault\n"),
+        ("12\n", (3, 0), Status::Done, "12\n", ""),
+        ("12\n", (2, 5), Status::WriteFault, "12", "write"),
+        ("", (0, 0), Status::Done, "", ""),
+        ("01\n", (0, 0), Status::Raised, "", ""),
+        ("01\n", (0, 6), Status::Raised, "", "raised"),
+    ];
+    for (input, room, status, out, err) in cases {
+        let files = two_files(alloc, ONE_QUERY, input.as_bytes())?;
+        assert!(rt; names_differ(&files));
+        let inputs = MemInputs::steady(alloc, files)?;
+        let left = run(&rt, alloc, &["run", "q"], inputs, room)?;
+        assert_eq!(rt; left.status, status, "at {input} in {room:?}");
+        assert_eq!(rt; left.out.bytes(), out.as_bytes(), "at {input} in {room:?}");
+        assert_eq!(rt; left.err.bytes(), err.as_bytes(), "at {input} in {room:?}");
+    }
+    Ok(())
+}

@@ -1,0 +1,44 @@
+//! The program: `rumble` over real files and the standard streams.
+#![tactic(auto)]
+
+mod inputs;
+mod sink;
+mod words;
+
+use crate::inputs::FileInputs;
+use crate::sink::StdSink;
+use crate::words::{WordFault, words};
+use outside::{FreeGate, write_all};
+use rumble_run::{Status, rumble};
+use std::process::ExitCode;
+
+// The status as a number, which is its place in the table of statuses.
+fn exit_code(status: Status) -> ExitCode {
+    ExitCode::from(status as u8)
+}
+
+fn main(rt: HostRuntime) -> ExitCode {
+    let alloc = rt.alloc();
+    let mut inputs = FileInputs::new(&rt);
+    let mut out = StdSink::new(rt.stdout());
+    let mut err = StdSink::new(rt.stderr());
+    let words = match words(&rt, alloc) {
+        Ok(words) => words,
+        // Words that are no text are words outside the table, as no words are.
+        Err(WordFault::NoText) => Vec::new(alloc),
+        Err(WordFault::NoMemory) => {
+            let _told = write_all(&mut err, b"no memory\n");
+            return exit_code(Status::NoMemory);
+        }
+    };
+    let status = rumble(
+        &rt,
+        alloc,
+        &words,
+        &mut inputs,
+        &mut out,
+        &mut err,
+        &FreeGate,
+    );
+    exit_code(status)
+}

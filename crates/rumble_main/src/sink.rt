@@ -1,0 +1,38 @@
+ghost use Rattle.std.specs.Prelude.{None};
+
+use outside::{Failed, Sink};
+use std::io;
+use std::io::Write;
+
+/// A standard stream of the program. It counts its faults and tells no bytes.
+#[derive(Drop)]
+pub struct StdSink<W> {
+    stream: W,
+    faults: u64,
+}
+
+impl<W> StdSink<W> {
+    /// The count begins at 0.
+    pub fn new(stream: W) -> StdSink<W> {
+        StdSink { stream, faults: 0 }
+    }
+}
+
+impl<W: Write> Sink for StdSink<W> {
+    ghost wrote = { λ _. None };
+
+    ghost faults = { λ s. s.faults };
+
+    fn write(&mut self, bytes: &[u8]) -> Result<usize, Failed> {
+        // A signal may interrupt a write, which is then made again.
+        'writing: for _ in 0..u64::MAX {
+            match self.stream.write(bytes) {
+                Err(fault) if fault.kind() == io::ErrorKind::Interrupted => {}
+                Ok(count) if count > 0 || bytes.is_empty() => return Ok(count),
+                _ => break,
+            }
+        }
+        self.faults = self.faults.saturating_add(1);
+        Err(Failed)
+    }
+}
