@@ -1,5 +1,12 @@
 -- What a call does to an object's counts, and to what was written.
-use Rattle.std.specs.Prelude.{Bool, true, false, ◌≡◌, ◌<◌, ◌≤◌, ◌⊎◌, ◌++◌, ◌+◌, ◌^◌, ◌-◌, ℕ, List, Option, None, Some, length, take}
+use Rattle.std.specs.Prelude.{Bool, true, false, ◌≡◌, ◌<◌, ◌≤◌, ◌⊎◌, ◌++◌, ◌+◌, ◌^◌, ◌-◌, ℕ, List, Option, None, Some, length, take, nat_lt, if◌then◌else◌}
+
+-- a counter's next value: one more, and after its last value that value again
+abbrev pub count_up : ℕ → ℕ
+count_up n = if nat_lt n (2 ^ 64 - 1) then n + 1 else n
+
+abbrev pub count_if : Bool → ℕ → ℕ
+count_if b n = if b then count_up n else n
 
 -- a count that rose, or stands at the last value of a counter
 abbrev pub Rose : ℕ → ℕ → Type 0
@@ -11,7 +18,8 @@ StaysFull before after = 2 ^ 64 - 1 ≤ before → after ≡ before
 
 -- a count that rose by one, or stood at the last value of a counter and stays
 abbrev pub RoseByOne : ℕ → ℕ → Type 0
-RoseByOne before after = ((before < 2 ^ 64 - 1) × (after ≡ before + 1)) ⊎ ((2 ^ 64 - 1 ≤ before) × (after ≡ before))
+RoseByOne before after =
+    ((before < 2 ^ 64 - 1) × (after ≡ before + 1)) ⊎ ((2 ^ 64 - 1 ≤ before) × (after ≡ before))
 
 -- a count that rises where the call fails, and else stays
 abbrev pub FailsBy : Bool → ℕ → ℕ → Type 0
@@ -25,4 +33,5 @@ appended (Some written) bytes = Some (written ++ bytes)
 
 -- a prefix of the bytes that lacks at least one of them was added
 abbrev pub CutShort : List ℕ → Option (List ℕ) → Option (List ℕ) → Type 0
-CutShort bytes before after = (k : ℕ) × (k < length bytes) × (after ≡ appended before (take k bytes))
+CutShort bytes before after =
+    (k : ℕ) × (k < length bytes) × (after ≡ appended before (take k bytes))

@@ -1,10 +1,7 @@
 -- What contracts see of the objects that stand in memory.
-use Rattle.std.specs.Prelude.{◌≤◌, ◌<◌, ◌≡◌, ◌⊎◌, ◌-◌, ◌+◌, ◌^◌, ℕ, List, Vec, length, map, min, nat_lt, if◌then◌else◌}
+use Rattle.std.specs.Prelude.{◌≤◌, ◌<◌, ◌≡◌, ◌⊎◌, ◌-◌, ℕ, List, Vec, Contains, length, map, min}
+use Rattle.outside.specs.Counted.{count_up}
 use Rattle.outside.specs.World.{World}
-
--- a counter's next value: one more, and after its last value that value again
-abbrev pub count_up : ℕ → ℕ
-count_up n = if nat_lt n (2 ^ 64 - 1) then n + 1 else n
 
 -- files as the world that they are
 abbrev pub world_of : {Z : Type 0} → List (List ℕ × Vec ℕ Z) → World
@@ -17,7 +14,7 @@ pub record SteadyFiles : Type 0 where
   pub opened : ℕ
   pub closed : ℕ
 
--- files of which some opens fail, and some calls: each a pair of the open's number and the call's on its file
+-- files of which some opens fail, by their numbers, and some calls, by the open's and the call's on its file
 pub record FailingFiles : Type 0 where
   pub files : World
   pub failing_opens : List ℕ
@@ -28,7 +25,7 @@ pub record FailingFiles : Type 0 where
   pub opened : ℕ
   pub closed : ℕ
 
--- an open file of these: its bytes, the number of its open, which calls fail, and how many there were
+-- an open file of these, with the number of its open and of the calls so far
 pub record FailingBytes : Type 0 where
   pub held : List ℕ
   pub number : ℕ
@@ -36,12 +33,22 @@ pub record FailingBytes : Type 0 where
   pub calls : ℕ
   pub faults : ℕ
 
+-- the number of the next open, or of the next call on the file, is one of those that fail
+abbrev pub NextOpenFails : FailingFiles → Type 0
+NextOpenFails s = Contains s.failing_opens (count_up s.opens)
+
+abbrev pub NextCallFails : FailingBytes → Type 0
+NextCallFails f = Contains f.failing_calls (f.number, count_up f.calls)
+
 -- a sink with a room, which takes at most so many bytes at once
 pub record BoundedSink : Type 0 where
   pub written : List ℕ
   pub room : ℕ
   pub most : ℕ
   pub faults : ℕ
+
+abbrev pub room_left : BoundedSink → ℕ
+room_left s = s.room - length s.written
 
 -- a sink that can take no further byte
 abbrev pub IsStuck : BoundedSink → Type 0

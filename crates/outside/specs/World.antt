@@ -16,7 +16,7 @@ file_of (f ∷ fs) name = if bytes_eq f.0 name then Some f.1 else file_of fs nam
 abbrev pub NamesDiffer : World → Type 0
 NamesDiffer w = IsDistinct bytes_eq (map (λ f. f.0) w)
 
--- n bytes of the file from this place on stand in front, at least one where there are any and room for them
+-- n bytes of the file from this place on stand in front, at least one where there are any and there is room
 pub record Reads (held : List ℕ) (at n : ℕ) (old new : List ℕ) : Type 0 where
   pub no_more : n ≤ length held - at
   pub front : take n new ≡ take n (drop at held)

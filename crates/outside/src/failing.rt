@@ -1,8 +1,8 @@
 ghost use Rattle.std.specs.Prelude.{◌≡◌, ◌-◌, ◌++◌, ◌↔◌, IsTrue, Contains, IfOk, OnErr, IsErr, IsErrOf, is_err, None, Some, length, take, drop, min};
 ghost use Rattle.std.specs.Str.{chars};
 ghost use Rattle.outside.specs.World.{file_of, NamesDiffer};
-ghost use Rattle.outside.specs.InMemory.{world_of, count_up};
-ghost use Rattle.outside.specs.AfterCalls.{after_ask, after_open, after_close, fresh_file, after_call};
+ghost use Rattle.outside.specs.InMemory.{world_of, NextOpenFails, NextCallFails};
+ghost use Rattle.outside.specs.AfterCalls.{new_steady, new_failing, after_ask, after_open, after_close, fresh_file, after_call};
 
 use crate::count::count_up;
 use crate::memory::{find, shared};
@@ -41,7 +41,16 @@ impl Model for MemInputs {
 
     ghost Value = { FailingFiles };
 
-    ghost view = { λ s. record { files = s.files.items; failing_opens = (arc_value s.fails).opens.items; failing_calls = (arc_value s.fails).calls.items; opens = s.opens; faults = s.faults; misses = s.misses; opened = s.opened; closed = s.closed } };
+    ghost view = { λ s. record {
+      files = s.files.items;
+      failing_opens = (arc_value s.fails).opens.items;
+      failing_calls = (arc_value s.fails).calls.items;
+      opens = s.opens;
+      faults = s.faults;
+      misses = s.misses;
+      opened = s.opened;
+      closed = s.closed;
+    } };
 }
 
 /// An open file of these.
@@ -60,7 +69,13 @@ impl Model for FailingFile {
 
     ghost Value = { FailingBytes };
 
-    ghost view = { λ f. record { held = f.bytes; number = f.number; failing_calls = (arc_value f.fails).calls.items; calls = f.calls; faults = f.faults } };
+    ghost view = { λ f. record {
+      held = f.bytes;
+      number = f.number;
+      failing_calls = (arc_value f.fails).calls.items;
+      calls = f.calls;
+      faults = f.faults;
+    } };
 }
 
 impl Fails {
@@ -85,7 +100,8 @@ impl MemInputs {
         fails: Fails,
     ) -> Result<MemInputs, NoMemory>
         requires { NamesDiffer (world_of files.items) }
-        ensures { IfOk result (λ s. s ≡ record { files = world_of files.items; failing_opens = fails.opens.items; failing_calls = fails.calls.items; opens = 0; faults = 0; misses = 0; opened = 0; closed = 0 }) }
+        ensures { IfOk result (λ s.
+            s ≡ new_failing (world_of files.items) fails.opens.items fails.calls.items) }
     {
         let files = shared(alloc, files)?;
         let Ok(fails) = Arc::new(alloc, fails) else {
@@ -105,14 +121,14 @@ impl MemInputs {
     /// Files that never fail, whose names differ. All counts begin at 0.
     pub fn steady(alloc: Global, files: Vec<(Str, Vec<u8>)>) -> Result<SteadyInputs, NoMemory>
         requires { NamesDiffer (world_of files.items) }
-        ensures { IfOk result (λ s. s ≡ record { files = world_of files.items; misses = 0; opened = 0; closed = 0 }) }
+        ensures { IfOk result (λ s. s ≡ new_steady (world_of files.items)) }
     {
         SteadyInputs::new(alloc, files)
     }
 
     // Counts an open, and a fault where it is one that fails.
     fn fails_now(&mut self) -> bool
-        ensures named { IsTrue result ↔ Contains self.old.failing_opens (count_up self.old.opens) }
+        ensures named { IsTrue result ↔ NextOpenFails self.old }
         ensures after { self.new ≡ after_ask self.old result }
     {
         self.opens = count_up(self.opens);
@@ -127,7 +143,7 @@ impl MemInputs {
 impl FailingFile {
     // Counts a call, and a fault where it is one that fails.
     fn fails_now(&mut self) -> bool
-        ensures named { IsTrue result ↔ Contains self.old.failing_calls (self.old.number, count_up self.old.calls) }
+        ensures named { IsTrue result ↔ NextCallFails self.old }
         ensures after { self.new ≡ after_call self.old result }
     {
         self.calls = count_up(self.calls);
@@ -145,7 +161,7 @@ impl InputFile for FailingFile {
     ghost faults = { λ f. f.faults };
 
     fn len(&mut self) -> Result<u64, Failed>
-        ensures fails { IsErr result ↔ Contains self.old.failing_calls (self.old.number, count_up self.old.calls) }
+        ensures fails { IsErr result ↔ NextCallFails self.old }
         ensures value { IfOk result (λ n. n ≡ length self.old.held) }
         ensures after { self.new ≡ after_call self.old (is_err result) }
     {
@@ -156,7 +172,7 @@ impl InputFile for FailingFile {
     }
 
     fn read_at(&mut self, at: u64, into: &mut [u8]) -> Result<usize, Failed>
-        ensures fails { IsErr result ↔ Contains self.old.failing_calls (self.old.number, count_up self.old.calls) }
+        ensures fails { IsErr result ↔ NextCallFails self.old }
         ensures count { IfOk result (λ n. n ≡ min (length self.old.held - at) (length into.old)) }
         ensures bytes { IfOk result (λ n. into.new ≡ take n (drop at self.old.held) ++ drop n into.old) }
         ensures untouched { OnErr result (into.new ≡ into.old) }
@@ -183,7 +199,7 @@ impl Inputs for MemInputs {
     ghost closed = { λ s. s.closed };
 
     fn open_file(&mut self, name: &str) -> Result<FailingFile, OpenFault>
-        ensures fails { IsErrOf result OpenFault.Failed ↔ Contains self.old.failing_opens (count_up self.old.opens) }
+        ensures fails { IsErrOf result OpenFault.Failed ↔ NextOpenFails self.old }
         ensures missing { IsErrOf result OpenFault.Missing → file_of self.old.files (chars name.now) ≡ None }
         ensures bytes { IfOk result (λ f. file_of self.old.files (chars name.now) ≡ Some f.held) }
         ensures fresh { IfOk result (λ f. f ≡ fresh_file self.new f.held) }

@@ -68,7 +68,8 @@ pub trait Inputs {
         ensures world { world self.new ≡ world self.old }
         ensures fresh { IfOk result (λ f. Self.File.faults f ≡ 0) }
         ensures holds { IfOk result (λ f. HoldsOf (world self.old) (chars name.now) (Self.File.held f)) }
-        ensures missing { IsErrOf result OpenFault.Missing → IfSome (world self.old) (λ w. file_of w (chars name.now) ≡ None) }
+        ensures missing { IsErrOf result OpenFault.Missing →
+            IfSome (world self.old) (λ w. file_of w (chars name.now) ≡ None) }
 
         ensures misses { MissesBy result (misses self.old) (misses self.new) }
         ensures faults { FaultsBy result (faults self.old) (faults self.new) }

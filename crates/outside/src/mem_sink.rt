@@ -1,5 +1,6 @@
 ghost use Rattle.std.specs.Prelude.{◌≡◌, ◌<◌, ◌≤◌, ◌-◌, ◌↔◌, [], ◌++◌, length, take, min, IfOk, OnErr, IsErr};
-ghost use Rattle.outside.specs.InMemory.{BoundedSink, IsStuck, count_up};
+ghost use Rattle.outside.specs.InMemory.{BoundedSink, IsStuck, room_left};
+ghost use Rattle.outside.specs.Counted.{count_up};
 
 use crate::count::count_up;
 use crate::{Failed, Sink};
@@ -23,9 +24,15 @@ impl Model for MemSink {
 
     ghost Value = { BoundedSink };
 
-    ghost view = { λ s. record { written = s.bytes.items; room = s.room; most = s.most; faults = s.faults } };
+    ghost view = { λ s. record {
+      written = s.bytes.items;
+      room = s.room;
+      most = s.most;
+      faults = s.faults;
+    } };
 
-    ghost invariant = { λ s. KeepsRoom (length s.bytes.items) (vec_capacity s.bytes) s.room s.most s.faults };
+    ghost invariant = { λ s.
+        KeepsRoom (length s.bytes.items) (vec_capacity s.bytes) s.room s.most s.faults };
 }
 
 impl MemSink {
@@ -63,8 +70,10 @@ impl Sink for MemSink {
 
     fn write(&mut self, bytes: &[u8]) -> Result<usize, Failed>
         ensures fails { IsErr result ↔ ((0 < length bytes.now) × IsStuck self.old) }
-        ensures count { IfOk result (λ n. n ≡ min self.old.most (min (self.old.room - length self.old.written) (length bytes.now))) }
-        ensures ok { IfOk result (λ n. self.new ≡ record self.old { written = self.old.written ++ take n bytes.now }) }
+        ensures count { IfOk result (λ n.
+            n ≡ min self.old.most (min (room_left self.old) (length bytes.now))) }
+        ensures ok { IfOk result (λ n.
+            self.new ≡ record self.old { written = self.old.written ++ take n bytes.now }) }
         ensures err { OnErr result (self.new ≡ record self.old { faults = count_up self.old.faults }) }
     {
         let left = self.room - self.bytes.len();

@@ -1,4 +1,5 @@
-ghost use Rattle.std.specs.Prelude.{◌≡◌, ◌↔◌, IfOk, IsTrue, MatchOption, None, Some, not};
+ghost use Rattle.std.specs.Prelude.{◌≡◌, ◌↔◌, IfOk, IsTrue, not};
+ghost use Rattle.std.specs.Option.{option_copied};
 ghost use Rattle.std.specs.Str.{chars, bytes_eq};
 ghost use Rattle.std.specs.List.{list_all};
 ghost use Rattle.outside.specs.World.{file_of, NamesDiffer};
@@ -17,7 +18,7 @@ fn is_named(file: &Str, name: &str) -> bool
 
 /// The bytes of the first file of this name.
 pub(crate) fn find<'a>(files: &'a [(Str, SharedBytes)], name: &str) -> Option<&'a SharedBytes>
-    ensures { MatchOption result (file_of files.now (chars name.now) ≡ None) (λ b. file_of files.now (chars name.now) ≡ Some b.now) }
+    ensures { option_copied result ≡ file_of files.now (chars name.now) }
 {
     for file in files {
         if is_named(&file.0, name) {

@@ -19,8 +19,10 @@ pub trait Sink {
         ensures taken { IfOk result (λ n. wrote self.new ≡ appended (wrote self.old) (take n bytes.now)) }
         ensures err { OnErr result (wrote self.new ≡ wrote self.old) }
 
-        ensures steady { IfOk result (λ n. (0 < n) ⊎ (length bytes.now ≡ 0) → faults self.new ≡ faults self.old) }
-        ensures idle { IfOk result (λ n. n ≡ 0 → 0 < length bytes.now → Rose (faults self.old) (faults self.new)) }
+        ensures steady { IfOk result (λ n.
+            (0 < n) ⊎ (length bytes.now ≡ 0) → faults self.new ≡ faults self.old) }
+        ensures idle { IfOk result (λ n.
+            n ≡ 0 → 0 < length bytes.now → Rose (faults self.old) (faults self.new)) }
         ensures cause { OnErr result (Rose (faults self.old) (faults self.new)) }
         ensures rises { faults self.old ≤ faults self.new };
 }

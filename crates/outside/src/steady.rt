@@ -2,7 +2,7 @@ ghost use Rattle.std.specs.Prelude.{◌≡◌, ◌-◌, ◌++◌, IfOk, Ok, IsEr
 ghost use Rattle.std.specs.Str.{chars};
 ghost use Rattle.outside.specs.World.{file_of};
 ghost use Rattle.outside.specs.InMemory.{world_of};
-ghost use Rattle.outside.specs.AfterCalls.{after_steady_open, after_steady_close};
+ghost use Rattle.outside.specs.AfterCalls.{new_steady, after_steady_open, after_steady_close};
 
 use crate::count::count_up;
 use crate::memory::{find, shared};
@@ -26,7 +26,12 @@ impl Model for SteadyInputs {
 
     ghost Value = { SteadyFiles };
 
-    ghost view = { λ s. record { files = s.files.items; misses = s.misses; opened = s.opened; closed = s.closed } };
+    ghost view = { λ s. record {
+      files = s.files.items;
+      misses = s.misses;
+      opened = s.opened;
+      closed = s.closed;
+    } };
 }
 
 /// An open file of these, seen as its bytes.
@@ -46,7 +51,7 @@ impl Model for MemFile {
 impl SteadyInputs {
     /// All counts begin at 0.
     pub(crate) fn new(alloc: Global, files: Vec<(Str, Vec<u8>)>) -> Result<SteadyInputs, NoMemory>
-        ensures { IfOk result (λ s. s ≡ record { files = world_of files.items; misses = 0; opened = 0; closed = 0 }) }
+        ensures { IfOk result (λ s. s ≡ new_steady (world_of files.items)) }
     {
         let files = shared(alloc, files)?;
         Ok(SteadyInputs {

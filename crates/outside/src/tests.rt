@@ -74,8 +74,8 @@ fn reads_steady_files(rt: HostRuntime) -> Result<(), Fail> {
     Ok(())
 }
 
-// Each row: the opens that fail, the calls that fail, and what three opens in turn then give: one of
-// a missing file, one of ten bytes that are read in five calls, and one of four bytes in three calls.
+// Each row: the opens that fail, the calls that fail, and what three opens in turn then give: of a
+// missing file, of ten bytes that are read in five calls, and of four bytes in three calls.
 #[test]
 fn fails_where_it_was_told(rt: HostRuntime) -> Result<(), Fail> {
     let alloc = rt.alloc();
@@ -122,7 +122,7 @@ fn tells_names_that_are_the_same(rt: HostRuntime) -> Result<(), Fail> {
     Ok(())
 }
 
-// Each row: a sink's room and most, what it answers to eight letters three times, and what it holds.
+// Each row: a sink's room and most, what it answers to eight letters three times, and its bytes.
 #[test]
 fn takes_what_it_has_room_for(rt: HostRuntime) -> Result<(), Fail> {
     let cases = [

@@ -1,16 +1,22 @@
-use Rattle.std.proofs.Common.{ap, ◌∙◌, arith, inl, take, drop, length, ◌-◌}
+use Rattle.std.proofs.Common.{◌-◌, length, take, drop, ap, ◌∙◌, arith, inl}
 use Rattle.std.proofs.lemmas.Grind.{common_steps}
 use Rattle.outside.specs.Counted.{appended}
-use Rattle.outside.proofs.Sinks.{appended_more}
+use Rattle.outside.proofs.Sinks.{appended-append, take_of_rest}
 use Rattle.outside.proofs.sink.write_all.Goals as goal
 
 pub loop-done-preserved : goal.loop-done-preserved
 loop-done-preserved g c =
-    let h = c.in_ok-taken.ensures in
-    let bs = c.args.bytes.now in
-    let d = c.loop-done.done in
-    let n = c.in_ok-taken.taken in (
-      grind (arith, common_steps),
-      h.taken ∙ ap (λ w. appended w (take n (take (length bs - d) (drop d bs)))) c.loop-done.invariant.1 ∙ appended_more (g.S.Sink.wrote c.args.sink.now) bs d n,
-      h.steady (inl (omega arith)) ∙ c.loop-done.invariant.2,
-    )
+    let call = c.in_ok-taken.ensures in
+    let had = c.loop-done.invariant in
+    let before = g.S.Sink.wrote c.args.sink.now in
+    let bytes = c.args.bytes.now in
+    let done = c.loop-done.done in
+    let taken = c.in_ok-taken.taken in
+    let piece = take taken (take (length bytes - done) (drop done bytes)) in record {
+      within = grind (arith, common_steps);
+      written = call.taken
+          ∙ ap (λ w. appended w piece) had.written
+          ∙ appended-append before (take done bytes) piece
+          ∙ ap (appended before) (take_of_rest bytes done taken);
+      steady = call.steady (inl (omega arith)) ∙ had.steady;
+    }
