@@ -1,1 +1,4 @@
+pub mod ArrayLists
+pub mod PairLists
+pub mod TextOrder
 mod TextRows

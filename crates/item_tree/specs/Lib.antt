@@ -3,4 +3,5 @@ pub mod Datum
 pub mod DatumCode
 pub mod Item
 pub mod Falls
+pub mod Made
 pub mod ItemText

@@ -11,3 +11,21 @@ pub struct Fault {
     /// The offset of a byte of the query's text, behind a byte order mark.
     pub place: u32,
 }
+
+/// Why an operation has no value.
+#[derive(Clone, Copy, Debug, PartialEq, Eq)]
+pub enum OpFault {
+    /// The operation is an error of the query, whose place its caller knows.
+    Raised(Code),
+    NoMemory,
+}
+
+/// Why an array or an object cannot be made.
+#[derive(Clone, Copy, Debug, PartialEq, Eq)]
+pub enum MakeFault {
+    /// The pair at this position, from 0, is the first whose key an earlier pair has.
+    KeyTwice { at: usize },
+    /// The array or object would be more than 128 deep.
+    TooDeep,
+    NoMemory,
+}

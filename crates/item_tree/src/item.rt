@@ -1,8 +1,14 @@
-use crate::{Str, Units, Whole};
+mod copy;
+mod make;
+
+pub use make::{array_of, object_of, object_of_distinct};
+
+use crate::{NoMemory, Str, Units, Whole};
 use std::alloc::Global;
 use std::marker::Model;
 use std::sync::Arc;
 
+/// A value of the query language. Contracts speak of the plain value that it stands for, `datum`.
 #[cycle(item)]
 #[derive(Debug, Drop)]
 pub enum Item {
@@ -15,6 +21,7 @@ pub enum Item {
     Object(Pairs),
 }
 
+/// The items of an array. Copies share one list. No array is more than 128 deep.
 #[cycle(item)]
 #[derive(Debug, Drop)]
 pub struct Items {
@@ -47,6 +54,8 @@ impl Model for Items {
     ghost size_decreases = { λ a h. omega (arith, items_fall (arc_value a.items).items) };
 }
 
+/// The pairs of an object in order of insertion, with different keys. Copies share one list. No
+/// object is more than 128 deep.
 #[cycle(item)]
 #[derive(Debug, Drop)]
 pub struct Pairs {
@@ -79,3 +88,82 @@ impl Model for Pairs {
     ghost size_decreases = { λ a h. omega (arith, pairs_fall (arc_value a.pairs).items) };
 }
 
+impl Items {
+    ghost use Rattle.std.specs.Prelude.{◌≡◌, IfOk};
+    ghost use Rattle.item_tree.specs.Datum.{Sound, array_of_list};
+    ghost use Rattle.item_tree.specs.Item.{datums};
+
+    pub fn as_slice(&self) -> &[Item]
+        ensures value { datums result.now ≡ self.now }
+        ensures sound { Sound (array_of_list self.now) }
+    {
+        self.items.as_slice()
+    }
+
+    /// The items as a list of the caller's own. They are copied only where the list is shared.
+    pub fn into_vec(self) -> Result<Vec<Item>, NoMemory>
+        ensures { IfOk result (λ v. datums v.items ≡ self) }
+    {
+        let Items { items, depth: _ } = self;
+        match Arc::unwrap_or_clone(items) {
+            Ok(items) => Ok(items),
+            Err(_) => Err(NoMemory),
+        }
+    }
+}
+
+impl Pairs {
+    ghost use Rattle.std.specs.Prelude.{◌≡◌, IfOk};
+    ghost use Rattle.item_tree.specs.Datum.{Sound, object_of_pairs};
+    ghost use Rattle.item_tree.specs.Item.{pair_datums};
+
+    pub fn as_slice(&self) -> &[(Str, Item)]
+        ensures value { pair_datums result.now ≡ self.now }
+        ensures sound { Sound (object_of_pairs self.now) }
+    {
+        self.pairs.as_slice()
+    }
+
+    /// The pairs as a list of the caller's own. They are copied only where the list is shared.
+    pub fn into_vec(self) -> Result<Vec<(Str, Item)>, NoMemory>
+        ensures { IfOk result (λ v. pair_datums v.items ≡ self) }
+    {
+        let Pairs { pairs, depth: _ } = self;
+        match Arc::unwrap_or_clone(pairs) {
+            Ok(pairs) => Ok(pairs),
+            Err(_) => Err(NoMemory),
+        }
+    }
+}
+
+impl Item {
+    ghost use Rattle.std.specs.Prelude.{◌≡◌, ◌≤◌};
+    ghost use Rattle.item_tree.specs.Datum.{Sound, depth as depth_of};
+    ghost use Rattle.item_tree.specs.Item.{datum};
+
+    /// How deep the item is: 0 for an atomic, and for an array or an object one more than the
+    /// greatest depth inside.
+    pub fn depth(&self) -> u8
+        ensures value { result ≡ depth_of (datum self.now) }
+        ensures sound { Sound (datum self.now) }
+        ensures within { result ≤ 128 }
+    {
+        match self {
+            Item::Null | Item::Bool(_) => 0,
+            Item::Int(n) => {
+                let _n = n.get();
+                0
+            }
+            Item::Dec(m) => {
+                let _m = m.get();
+                0
+            }
+            Item::Text(t) => {
+                let _text = t.as_str();
+                0
+            }
+            Item::Array(items) => items.depth,
+            Item::Object(pairs) => pairs.depth,
+        }
+    }
+}

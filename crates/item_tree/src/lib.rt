@@ -8,7 +8,7 @@ mod number;
 mod text;
 
 pub use code::Code;
-pub use fault::{Fault, NoMemory};
-pub use item::{Item, Items, Pairs};
+pub use fault::{Fault, MakeFault, NoMemory, OpFault};
+pub use item::{Item, Items, Pairs, array_of, object_of, object_of_distinct};
 pub use number::{Units, Whole};
 pub use text::Str;

@@ -1,8 +1,13 @@
 ghost use Rattle.std.specs.Prelude.{◌≡◌, IfOk, true};
+ghost use Rattle.std.specs.Ordering.{nat_cmp};
+ghost use Rattle.std.specs.Cmp.Lexicographic.{slice_cmp};
 ghost use Rattle.std.specs.Str.{chars, encode_utf8_all, all_scalars};
+ghost use Rattle.std.specs.String.{string_bytes};
 
 use crate::NoMemory;
-use std::alloc::Global;
+use std::alloc::{AllocError, Global};
+use std::cmp::Ordering;
+use std::hash::{Hash, Hasher};
 use std::marker::Model;
 use std::sync::Arc;
 
@@ -28,9 +33,16 @@ impl Str {
     pub fn of(alloc: Global, text: &str) -> Result<Str, NoMemory>
         ensures { IfOk result (λ s. s ≡ chars text.now) }
     {
-        let Ok(text) = String::from_str(alloc, text) else {
-            return Err(NoMemory);
-        };
+        match String::from_str(alloc, text) {
+            Ok(text) => Str::from_string(alloc, text),
+            Err(_) => Err(NoMemory),
+        }
+    }
+
+    /// The string of these characters, without a second copy of them.
+    pub fn from_string(alloc: Global, text: String) -> Result<Str, NoMemory>
+        ensures { IfOk result (λ s. s ≡ chars (string_bytes text)) }
+    {
         match Arc::new(alloc, text) {
             Ok(text) => Ok(Str { text }),
             Err(_) => Err(NoMemory),
@@ -43,5 +55,67 @@ impl Str {
         ensures sound { all_scalars self.now ≡ true }
     {
         self.text.as_str()
+    }
+
+    /// The same string, in constant time. It takes no memory, and fails only where no further
+    /// copy can be counted.
+    pub fn copy(&self) -> Result<Str, NoMemory>
+        ensures { IfOk result (λ s. s ≡ self.now) }
+    {
+        match Arc::try_clone(&self.text) {
+            Ok(text) => Ok(Str { text }),
+            Err(_) => Err(NoMemory),
+        }
+    }
+
+    /// The order by code points.
+    pub fn compare(&self, other: &Str) -> Ordering
+        ensures { result ≡ slice_cmp nat_cmp self.now other.now }
+    {
+        self.as_str().cmp(other.as_str())
+    }
+}
+
+impl Clone for Str {
+    ghost is_clone = { λ a b. b ≡ a };
+
+    fn clone(&self) -> Result<Str, AllocError> {
+        let text = Arc::try_clone(&self.text)?;
+        Ok(Str { text })
+    }
+}
+
+impl PartialEq for Str {
+    ghost use Rattle.std.specs.Str.{bytes_eq};
+    ghost use Rattle.std.specs.Cmp.{partial_equiv_from_equiv};
+    ghost use Rattle.std.proofs.lemmas.Cmp.{nat_list_eq_equiv};
+
+    ghost eq = { λ a b. bytes_eq a b };
+
+    ghost laws = { partial_equiv_from_equiv nat_list_eq_equiv };
+
+    fn eq(&self, other: &Str) -> bool {
+        self.as_str() == other.as_str()
+    }
+}
+
+impl Eq for Str {
+    ghost use Rattle.std.proofs.lemmas.Cmp.{nat_list_eq_equiv};
+
+    ghost laws = { nat_list_eq_equiv };
+}
+
+impl Hash for Str {
+    ghost use Rattle.std.specs.Str.{encode_utf8_all};
+    ghost use Rattle.std.specs.Hash as fed;
+    ghost use Rattle.std.proofs.Common.{ap};
+    ghost use Rattle.std.proofs.lemmas.Slice.Eq.{bytes_eq-Decides};
+
+    ghost hash_input = { λ s. fed.str (encode_utf8_all s) };
+
+    ghost respects_eq = { λ x y e. ap (λ s. fed.str (encode_utf8_all s)) ((bytes_eq-Decides x y).0 e) };
+
+    fn hash<H: Hasher>(&self, state: &mut H) {
+        self.as_str().hash(state);
     }
 }

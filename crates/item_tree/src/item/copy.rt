@@ -1,0 +1,106 @@
+use super::{Item, Items, Pairs};
+use crate::NoMemory;
+use std::alloc::AllocError;
+use std::sync::Arc;
+
+impl Items {
+    ghost use Rattle.std.specs.Prelude.{◌≡◌, IfOk};
+
+    /// The same items, in constant time. It takes no memory, and fails only where no further copy
+    /// can be counted.
+    pub fn copy(&self) -> Result<Items, NoMemory>
+        ensures { IfOk result (λ s. s ≡ self.now) }
+    {
+        match Arc::try_clone(&self.items) {
+            Ok(items) => Ok(Items {
+                items,
+                depth: self.depth,
+            }),
+            Err(_) => Err(NoMemory),
+        }
+    }
+}
+
+impl Pairs {
+    ghost use Rattle.std.specs.Prelude.{◌≡◌, IfOk};
+
+    /// The same pairs, in constant time. It takes no memory, and fails only where no further copy
+    /// can be counted.
+    pub fn copy(&self) -> Result<Pairs, NoMemory>
+        ensures { IfOk result (λ s. s ≡ self.now) }
+    {
+        match Arc::try_clone(&self.pairs) {
+            Ok(pairs) => Ok(Pairs {
+                pairs,
+                depth: self.depth,
+            }),
+            Err(_) => Err(NoMemory),
+        }
+    }
+}
+
+impl Item {
+    ghost use Rattle.std.specs.Prelude.{◌≡◌, IfOk};
+
+    /// An equal item, in constant time: a string, an array and an object are shared. It takes no
+    /// memory, and fails only where no further copy can be counted.
+    pub fn copy(&self) -> Result<Item, NoMemory>
+        ensures { IfOk result (λ x. x ≡ self.now) }
+    {
+        match self {
+            Item::Null => Ok(Item::Null),
+            Item::Bool(b) => Ok(Item::Bool(*b)),
+            Item::Int(n) => Ok(Item::Int(*n)),
+            Item::Dec(m) => Ok(Item::Dec(*m)),
+            Item::Text(t) => Ok(Item::Text(t.copy()?)),
+            Item::Array(items) => Ok(Item::Array(items.copy()?)),
+            Item::Object(pairs) => Ok(Item::Object(pairs.copy()?)),
+        }
+    }
+}
+
+impl Clone for Items {
+    ghost use Rattle.std.specs.Prelude.{◌≡◌};
+
+    ghost is_clone = { λ a b. b ≡ a };
+
+    fn clone(&self) -> Result<Items, AllocError> {
+        let items = Arc::try_clone(&self.items)?;
+        Ok(Items {
+            items,
+            depth: self.depth,
+        })
+    }
+}
+
+impl Clone for Pairs {
+    ghost use Rattle.std.specs.Prelude.{◌≡◌};
+
+    ghost is_clone = { λ a b. b ≡ a };
+
+    fn clone(&self) -> Result<Pairs, AllocError> {
+        let pairs = Arc::try_clone(&self.pairs)?;
+        Ok(Pairs {
+            pairs,
+            depth: self.depth,
+        })
+    }
+}
+
+impl Clone for Item {
+    ghost use Rattle.std.specs.Prelude.{◌≡◌};
+
+    ghost is_clone = { λ a b. b ≡ a };
+
+    fn clone(&self) -> Result<Item, AllocError> {
+        match self {
+            Item::Null => Ok(Item::Null),
+            Item::Bool(b) => Ok(Item::Bool(*b)),
+            Item::Int(n) => Ok(Item::Int(*n)),
+            Item::Dec(m) => Ok(Item::Dec(*m)),
+            Item::Text(t) => Ok(Item::Text(t.clone()?)),
+            Item::Array(items) => Ok(Item::Array(items.clone()?)),
+            Item::Object(pairs) => Ok(Item::Object(pairs.clone()?)),
+        }
+    }
+}
