@@ -1,4 +1,5 @@
 pub mod ArrayLists
 pub mod PairLists
+pub mod Places
 pub mod TextOrder
 mod TextRows

@@ -3,5 +3,6 @@ pub mod Datum
 pub mod DatumCode
 pub mod Item
 pub mod Falls
+pub mod Lookup
 pub mod Made
 pub mod ItemText

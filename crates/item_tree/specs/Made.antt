@@ -25,6 +25,12 @@ pub record IsFirstRepeat (ps : List (List ℕ × Datum)) (at : ℕ) : Type 0 whe
   pub before : KeysDiffer (take at ps)
   pub again : HasKey (get_or ps at ([], null)).0 (take at ps)
 
+-- a list of keys is refused for a repeat alone
+abbrev pub RepeatRefused : List (List ℕ × Datum) → MakeFault → Type 0
+RepeatRefused ps (KeyTwice at) = IsFirstRepeat ps at
+RepeatRefused ps TooDeep = ⊥
+RepeatRefused ps NoMemory = Unit {0}
+
 -- some pair's value has depth 128
 abbrev pub HasDeepPair : List (List ℕ × Datum) → Type 0
 HasDeepPair [] = ⊥

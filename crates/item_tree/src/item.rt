@@ -1,10 +1,13 @@
 mod copy;
+mod find;
 mod make;
 
 pub use make::{array_of, object_of, object_of_distinct};
 
+use crate::item::find::{place_among, value_at};
 use crate::{NoMemory, Str, Units, Whole};
 use std::alloc::Global;
+use std::collections::HashMap;
 use std::marker::Model;
 use std::sync::Arc;
 
@@ -60,14 +63,18 @@ impl Model for Items {
 #[derive(Debug, Drop)]
 pub struct Pairs {
     pairs: Arc<Vec<(Str, Item)>, Global>,
+    // The position of each key, where there are many.
+    places: Option<Arc<HashMap<Str, usize>, Global>>,
     depth: u8,
 }
 
 impl Model for Pairs {
     ghost use Rattle.std.specs.Prelude.{◌≡◌, List, ℕ};
+    ghost use Rattle.std.specs.Option.{ForSome};
     ghost use Rattle.std.specs.Coded.{coded_list, coded×, coded_ℕ};
     ghost use Rattle.std.specs.Arc.{arc_value};
     ghost use Rattle.item_tree.specs.Datum.{Datum, Sound, depth as depth_of, object_of_pairs};
+    ghost use Rattle.item_tree.specs.Lookup.{ArePlaces};
     ghost use Rattle.item_tree.specs.DatumCode.{datum_code};
 
     ghost Value = { List (List ℕ × Datum) };
@@ -78,7 +85,7 @@ impl Model for Pairs {
 
     ghost view = { λ a. pair_datums (arc_value a.pairs).items };
 
-    ghost invariant = { λ a. (a.depth ≡ depth_of (object_of_pairs (pair_datums (arc_value a.pairs).items))) × Sound (object_of_pairs (pair_datums (arc_value a.pairs).items)) };
+    ghost invariant = { λ a. (a.depth ≡ depth_of (object_of_pairs (pair_datums (arc_value a.pairs).items))) × Sound (object_of_pairs (pair_datums (arc_value a.pairs).items)) × ForSome a.places (λ t. ArePlaces (arc_value t) (pair_datums (arc_value a.pairs).items)) };
 
     ghost size = { λ ps. depth_of (object_of_pairs ps) };
 
@@ -113,9 +120,10 @@ impl Items {
 }
 
 impl Pairs {
-    ghost use Rattle.std.specs.Prelude.{◌≡◌, IfOk};
+    ghost use Rattle.std.specs.Prelude.{◌≡◌, IfOk, option_map};
     ghost use Rattle.item_tree.specs.Datum.{Sound, object_of_pairs};
-    ghost use Rattle.item_tree.specs.Item.{pair_datums};
+    ghost use Rattle.item_tree.specs.Item.{datum, pair_datums};
+    ghost use Rattle.item_tree.specs.Lookup.{lookup, place_of};
 
     pub fn as_slice(&self) -> &[(Str, Item)]
         ensures value { pair_datums result.now ≡ self.now }
@@ -124,11 +132,34 @@ impl Pairs {
         self.pairs.as_slice()
     }
 
+    /// The value at this key, in a time that does not grow with the number of pairs.
+    pub fn get(&self, key: &Str) -> Option<&Item>
+        ensures { option_map (λ x. datum x.now) result ≡ lookup key.now self.now }
+    {
+        match self.place(key) {
+            None => None,
+            Some(at) => Some(value_at(self.as_slice(), at)),
+        }
+    }
+
+    fn place(&self, key: &Str) -> Option<usize>
+        ensures { result ≡ place_of key.now self.now }
+    {
+        match &self.places {
+            None => place_among(self.pairs.as_slice(), key),
+            Some(places) => places.get(key).copied(),
+        }
+    }
+
     /// The pairs as a list of the caller's own. They are copied only where the list is shared.
     pub fn into_vec(self) -> Result<Vec<(Str, Item)>, NoMemory>
         ensures { IfOk result (λ v. pair_datums v.items ≡ self) }
     {
-        let Pairs { pairs, depth: _ } = self;
+        let Pairs {
+            pairs,
+            places: _,
+            depth: _,
+        } = self;
         match Arc::unwrap_or_clone(pairs) {
             Ok(pairs) => Ok(pairs),
             Err(_) => Err(NoMemory),

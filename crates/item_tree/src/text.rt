@@ -62,8 +62,8 @@ impl Str {
     pub fn copy(&self) -> Result<Str, NoMemory>
         ensures { IfOk result (λ s. s ≡ self.now) }
     {
-        match Arc::try_clone(&self.text) {
-            Ok(text) => Ok(Str { text }),
+        match self.clone() {
+            Ok(text) => Ok(text),
             Err(_) => Err(NoMemory),
         }
     }

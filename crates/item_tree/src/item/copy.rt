@@ -11,11 +11,8 @@ impl Items {
     pub fn copy(&self) -> Result<Items, NoMemory>
         ensures { IfOk result (λ s. s ≡ self.now) }
     {
-        match Arc::try_clone(&self.items) {
-            Ok(items) => Ok(Items {
-                items,
-                depth: self.depth,
-            }),
+        match self.clone() {
+            Ok(items) => Ok(items),
             Err(_) => Err(NoMemory),
         }
     }
@@ -29,11 +26,8 @@ impl Pairs {
     pub fn copy(&self) -> Result<Pairs, NoMemory>
         ensures { IfOk result (λ s. s ≡ self.now) }
     {
-        match Arc::try_clone(&self.pairs) {
-            Ok(pairs) => Ok(Pairs {
-                pairs,
-                depth: self.depth,
-            }),
+        match self.clone() {
+            Ok(pairs) => Ok(pairs),
             Err(_) => Err(NoMemory),
         }
     }
@@ -47,14 +41,9 @@ impl Item {
     pub fn copy(&self) -> Result<Item, NoMemory>
         ensures { IfOk result (λ x. x ≡ self.now) }
     {
-        match self {
-            Item::Null => Ok(Item::Null),
-            Item::Bool(b) => Ok(Item::Bool(*b)),
-            Item::Int(n) => Ok(Item::Int(*n)),
-            Item::Dec(m) => Ok(Item::Dec(*m)),
-            Item::Text(t) => Ok(Item::Text(t.copy()?)),
-            Item::Array(items) => Ok(Item::Array(items.copy()?)),
-            Item::Object(pairs) => Ok(Item::Object(pairs.copy()?)),
+        match self.clone() {
+            Ok(item) => Ok(item),
+            Err(_) => Err(NoMemory),
         }
     }
 }
@@ -80,8 +69,13 @@ impl Clone for Pairs {
 
     fn clone(&self) -> Result<Pairs, AllocError> {
         let pairs = Arc::try_clone(&self.pairs)?;
+        let places = match &self.places {
+            None => None,
+            Some(places) => Some(Arc::try_clone(places)?),
+        };
         Ok(Pairs {
             pairs,
+            places,
             depth: self.depth,
         })
     }

@@ -1,12 +1,16 @@
-ghost use Rattle.std.specs.Prelude.{◌≡◌, ◌≤◌, IfOk, MatchResult, MatchOption, MatchBool};
-ghost use Rattle.item_tree.specs.Datum.{AllSound, MembersSound, KeysDiffer, NoneHas, values, members, array_of_list, object_of_pairs, depth as depth_of};
+ghost use Rattle.std.specs.Prelude.{◌≡◌, MatchResult, MatchOption};
+ghost use Rattle.std.specs.Option.{ForSome};
+ghost use Rattle.std.specs.Arc.{arc_value};
+ghost use Rattle.item_tree.specs.Datum.{AllSound, MembersSound, KeysDiffer, values, members, array_of_list, object_of_pairs, depth as depth_of};
 ghost use Rattle.item_tree.specs.Item.{datum, datums, pair_datums};
-ghost use Rattle.item_tree.specs.Made.{ArrayRefused, ObjectRefused, DistinctRefused, HasKey, IsFirstRepeat};
+ghost use Rattle.item_tree.specs.Lookup.{ArePlaces};
+ghost use Rattle.item_tree.specs.Made.{ArrayRefused, ObjectRefused, DistinctRefused, RepeatRefused, IsFirstRepeat};
 
+use super::find::place_among;
 use super::{Item, Items, Pairs};
-use crate::{MakeFault, NoMemory, Str};
+use crate::{MakeFault, Str};
 use std::alloc::Global;
-use std::collections::HashSet;
+use std::collections::HashMap;
 use std::sync::Arc;
 
 /// The array of these items.
@@ -32,10 +36,15 @@ pub fn array_of(alloc: Global, items: Vec<Item>) -> Result<Item, MakeFault>
 pub fn object_of(alloc: Global, pairs: Vec<(Str, Item)>) -> Result<Item, MakeFault>
     ensures { MatchResult result (λ x. datum x ≡ object_of_pairs (pair_datums pairs.items)) (ObjectRefused (pair_datums pairs.items)) }
 {
-    match first_repeat(alloc, pairs.as_slice()) {
-        Ok(None) => object_of_distinct(alloc, pairs),
-        Ok(Some(at)) => Err(MakeFault::KeyTwice { at }),
-        Err(_) => Err(MakeFault::NoMemory),
+    if pairs.len() <= FEW {
+        return match first_repeat(pairs.as_slice()) {
+            None => object_with(alloc, pairs, None),
+            Some(at) => Err(MakeFault::KeyTwice { at }),
+        };
+    }
+    match shared_places(alloc, pairs.as_slice()) {
+        Ok(places) => object_with(alloc, pairs, Some(places)),
+        Err(fault) => Err(fault),
     }
 }
 
@@ -46,12 +55,37 @@ pub fn object_of_distinct(alloc: Global, pairs: Vec<(Str, Item)>) -> Result<Item
     requires { KeysDiffer (pair_datums pairs.items) }
     ensures { MatchResult result (λ x. datum x ≡ object_of_pairs (pair_datums pairs.items)) (DistinctRefused (pair_datums pairs.items)) }
 {
+    if pairs.len() <= FEW {
+        return object_with(alloc, pairs, None);
+    }
+    match shared_places(alloc, pairs.as_slice()) {
+        Ok(places) => object_with(alloc, pairs, Some(places)),
+        Err(fault) => Err(fault),
+    }
+}
+
+// So many keys are sooner compared with each other than put into a table.
+const FEW: usize = 32;
+
+fn object_with(
+    alloc: Global,
+    pairs: Vec<(Str, Item)>,
+    places: Option<Arc<HashMap<Str, usize>, Global>>,
+) -> Result<Item, MakeFault>
+    requires differ { KeysDiffer (pair_datums pairs.items) }
+    requires places { ForSome places (λ t. ArePlaces (arc_value t) (pair_datums pairs.items)) }
+    ensures { MatchResult result (λ x. datum x ≡ object_of_pairs (pair_datums pairs.items)) (DistinctRefused (pair_datums pairs.items)) }
+{
     let depth = object_depth(pairs.as_slice());
     if depth > 128 {
         return Err(MakeFault::TooDeep);
     }
     match Arc::new(alloc, pairs) {
-        Ok(pairs) => Ok(Item::Object(Pairs { pairs, depth })),
+        Ok(pairs) => Ok(Item::Object(Pairs {
+            pairs,
+            places,
+            depth,
+        })),
         Err(_) => Err(MakeFault::NoMemory),
     }
 }
@@ -87,54 +121,46 @@ fn object_depth(pairs: &[(Str, Item)]) -> u8
     depth
 }
 
-// So many keys are sooner compared with each other than put into a set.
-const FEW: usize = 8;
-
 // The position of the first key that an earlier pair has.
-fn first_repeat(alloc: Global, pairs: &[(Str, Item)]) -> Result<Option<usize>, NoMemory>
-    ensures { IfOk result (λ r. MatchOption r (KeysDiffer (pair_datums pairs.now)) (IsFirstRepeat (pair_datums pairs.now))) }
-{
-    if pairs.len() <= FEW {
-        Ok(first_repeat_scanned(pairs))
-    } else {
-        first_repeat_hashed(alloc, pairs)
-    }
-}
-
-fn first_repeat_scanned(pairs: &[(Str, Item)]) -> Option<usize>
+fn first_repeat(pairs: &[(Str, Item)]) -> Option<usize>
     ensures { MatchOption result (KeysDiffer (pair_datums pairs.now)) (IsFirstRepeat (pair_datums pairs.now)) }
 {
     for i in 0..pairs.len() {
         let p = &pairs[i];
-        if has_key(&pairs[..i], &p.0) {
+        if place_among(&pairs[..i], &p.0).is_some() {
             return Some(i);
         }
     }
     None
 }
 
-fn has_key(pairs: &[(Str, Item)], key: &Str) -> bool
-    ensures { MatchBool result (HasKey key.now (pair_datums pairs.now)) (NoneHas key.now (pair_datums pairs.now)) }
+fn shared_places(
+    alloc: Global,
+    pairs: &[(Str, Item)],
+) -> Result<Arc<HashMap<Str, usize>, Global>, MakeFault>
+    ensures { MatchResult result (λ t. KeysDiffer (pair_datums pairs.now) × ArePlaces (arc_value t) (pair_datums pairs.now)) (RepeatRefused (pair_datums pairs.now)) }
 {
-    for p in pairs {
-        if *key == p.0 {
-            return true;
-        }
+    match Arc::new(alloc, places_of(alloc, pairs)?) {
+        Ok(places) => Ok(places),
+        Err(_) => Err(MakeFault::NoMemory),
     }
-    false
 }
 
-fn first_repeat_hashed(alloc: Global, pairs: &[(Str, Item)]) -> Result<Option<usize>, NoMemory>
-    ensures { IfOk result (λ r. MatchOption r (KeysDiffer (pair_datums pairs.now)) (IsFirstRepeat (pair_datums pairs.now))) }
+// The position of each key, or the first that an earlier pair has.
+fn places_of(alloc: Global, pairs: &[(Str, Item)]) -> Result<HashMap<Str, usize>, MakeFault>
+    ensures { MatchResult result (λ m. KeysDiffer (pair_datums pairs.now) × ArePlaces m (pair_datums pairs.now)) (RepeatRefused (pair_datums pairs.now)) }
 {
-    let mut seen = HashSet::new(alloc);
+    let mut places = HashMap::new(alloc);
     for i in 0..pairs.len() {
         let p = &pairs[i];
-        match seen.insert(p.0.copy()?) {
-            Ok(true) => {}
-            Ok(false) => return Ok(Some(i)),
-            Err(_) => return Err(NoMemory),
+        let Ok(key) = p.0.copy() else {
+            return Err(MakeFault::NoMemory);
+        };
+        match places.insert(key, i) {
+            Ok(None) => {}
+            Ok(Some(_)) => return Err(MakeFault::KeyTwice { at: i }),
+            Err(_) => return Err(MakeFault::NoMemory),
         }
     }
-    Ok(None)
+    Ok(places)
 }
