@@ -5,4 +5,6 @@ pub mod Item
 pub mod Falls
 pub mod Lookup
 pub mod Made
+pub mod Compare
+pub mod Truth
 pub mod ItemText

@@ -2,13 +2,17 @@
 #![tactic(auto)]
 
 mod code;
+mod compare;
 mod fault;
 mod item;
 mod number;
 mod text;
+mod truth;
 
 pub use code::Code;
+pub use compare::{cmp_atoms, deep_equal, same_key};
 pub use fault::{Fault, MakeFault, NoMemory, OpFault};
 pub use item::{Item, Items, Pairs, array_of, object_of, object_of_distinct};
 pub use number::{Units, Whole};
 pub use text::Str;
+pub use truth::ebv;

@@ -1,4 +1,5 @@
 ghost use Rattle.std.specs.Prelude.{◌≡◌};
+ghost use Rattle.item_tree.specs.Compare.{whole_units};
 ghost use Rattle.item_tree.specs.Datum.{IsWhole, IsUnits};
 
 use std::marker::Model;
@@ -36,6 +37,13 @@ impl Whole {
         ensures within { IsWhole self.now }
     {
         self.n
+    }
+
+    /// The number in units of 10^-6.
+    pub fn units(&self) -> i128
+        ensures { result ≡ whole_units self.now }
+    {
+        self.get() * 1_000_000
     }
 }
 
