@@ -4,4 +4,6 @@ pub mod Places
 pub mod TextOrder
 pub mod EqualLists
 pub mod Emptiness
+pub mod LastZeros
+pub mod AtomTexts
 mod TextRows

@@ -120,3 +120,9 @@ abbrev mutual
 abbrev pub is_null : Datum → Bool
 is_null null = true
 is_null _ = false
+
+-- neither an array nor an object
+abbrev pub IsAtomic : Datum → Type 0
+IsAtomic (array vs) = ⊥
+IsAtomic (object ms) = ⊥
+IsAtomic _ = Unit {0}

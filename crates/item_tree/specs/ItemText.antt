@@ -76,3 +76,17 @@ abbrev mutual
   pub more_members_text : Members → List ℕ
   more_members_text no_members = 125 ∷ []
   more_members_text (member k v ms) = 44 ∷ string_text k ++ 58 ∷ item_text v ++ more_members_text ms
+
+-- the characters of an atomic's text: of a string the string itself, and else the item's text, which is ASCII
+abbrev pub atom_text : Datum → List ℕ
+atom_text (text cs) = cs
+atom_text null = item_text null
+atom_text (boolean b) = item_text (boolean b)
+atom_text (integer n) = item_text (integer n)
+atom_text (decimal m) = item_text (decimal m)
+atom_text (array vs) = item_text (array vs)
+atom_text (object ms) = item_text (object ms)
+
+-- the text after is the text before and more
+abbrev pub Extends : List ℕ → List ℕ → Type 0
+Extends before after = (more : List ℕ) × (after ≡ before ++ more)

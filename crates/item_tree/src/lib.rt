@@ -1,6 +1,7 @@
 //! Items, the values of the query language, and the codes of its errors.
 #![tactic(auto)]
 
+mod atom_text;
 mod code;
 mod compare;
 mod fault;
@@ -9,6 +10,7 @@ mod number;
 mod text;
 mod truth;
 
+pub use atom_text::{push_decimal, text_of};
 pub use code::Code;
 pub use compare::{cmp_atoms, deep_equal, same_key};
 pub use fault::{Fault, MakeFault, NoMemory, OpFault};
