@@ -1,9 +1,10 @@
 -- What one more item adds to an array.
-use Rattle.std.proofs.Common.{◌≡◌, ℕ, ◌+◌, ◌<◌, ◌≤◌, max, List, [], ◌∷◌, ◌++◌, length, get_or, take, sym, ap, subst, ◌∙◌, arith, inl, inr, ◌⊎◌}
+use Rattle.std.proofs.Common.{◌≡◌, ℕ, ◌+◌, ◌<◌, ◌≤◌, max, List, [], ◌∷◌, ◌++◌, length, map, get_or, take, refl, sym, ap, subst, ◌∙◌, arith, inl, inr, ◌⊎◌}
 use Rattle.std.proofs.lemmas.List.{take_more}
 use Rattle.item_tree.specs.declared.item.Item.{Item}
-use Rattle.item_tree.specs.Datum.{Datum, null, boolean, integer, decimal, text, array, object, depth, array_of_list, values, Sound, AllSound}
+use Rattle.item_tree.specs.Datum.{Datum, null, boolean, integer, decimal, text, array, object, depth, array_of_list, object_of_pairs, values, Sound, AllSound}
 use Rattle.item_tree.specs.Item.{datum, datums}
+use Rattle.item_tree.specs.Laws.{greatest, DepthsAreKept}
 use Rattle.item_tree.specs.Made.{HasDeep}
 
 datums-push : (xs : List Item) (x : Item) → depth (array_of_list (datums (xs ++ x ∷ []))) ≡ max (depth (array_of_list (datums xs))) (depth (datum x) + 1)
@@ -40,3 +41,18 @@ pub deep_from : (vs : List Datum) → AllSound (values vs) → 128 < depth (arra
 deep_from [] s h = absurd (omega arith)
 deep_from (v ∷ vs) s h =
     elim (deep_or v (sound_depth v s.0)) [ inl e ↦ inl e | inr l ↦ inr (deep_from vs s.1 (omega arith)) ]
+
+array_depth : (vs : List Datum) → depth (array_of_list vs) ≡ greatest (map depth vs) + 1
+array_depth [] = refl
+array_depth (v ∷ vs) = omega (arith, array_depth vs)
+
+object_depth : (ps : List (List ℕ × Datum)) → depth (object_of_pairs ps) ≡ greatest (map (λ p. depth p.1) ps) + 1
+object_depth [] = refl
+object_depth (p ∷ ps) = omega (arith, object_depth ps)
+
+pub depths_kept : DepthsAreKept
+depths_kept = record {
+  of_array = array_depth;
+  of_object = object_depth;
+  bounded = sound_depth;
+}

@@ -6,4 +6,7 @@ pub mod EqualLists
 pub mod Emptiness
 pub mod LastZeros
 pub mod AtomTexts
+pub mod AtomOrder
+pub mod Members
+pub mod DeepEquality
 mod TextRows

@@ -70,10 +70,6 @@ same_keys None (Some w) = false
 same_keys (Some v) None = false
 same_keys (Some v) (Some w) = is_equal (compare_atoms v w)
 
-abbrev pub same_atom : Atom → Option Atom → Bool
-same_atom a None = false
-same_atom a (Some b) = is_equal (order a b)
-
 -- whether there is a value that passes the test
 abbrev pub passes : (Datum → Bool) → Option Datum → Bool
 passes test None = false
@@ -82,11 +78,11 @@ passes test (Some w) = test w
 -- equal values: numbers by their units, arrays member by member, objects by equal keys with equal values in any order
 abbrev mutual
   pub equal : Datum → Datum → Bool
-  equal null w = same_atom nothing (atom w)
-  equal (boolean b) w = same_atom (truth b) (atom w)
-  equal (integer n) w = same_atom (number (whole_units n)) (atom w)
-  equal (decimal m) w = same_atom (number m) (atom w)
-  equal (text t) w = same_atom (string t) (atom w)
+  equal null w = is_equal (compare_atoms null w)
+  equal (boolean b) w = is_equal (compare_atoms (boolean b) w)
+  equal (integer n) w = is_equal (compare_atoms (integer n) w)
+  equal (decimal m) w = is_equal (compare_atoms (decimal m) w)
+  equal (text t) w = is_equal (compare_atoms (text t) w)
   equal (array vs) (array ws) = equal_data vs ws
   equal (array vs) _ = false
   equal (object ms) (object ns) = (length (pairs ms) == length (pairs ns)) && equal_in ms (pairs ns)

@@ -7,4 +7,5 @@ pub mod Lookup
 pub mod Made
 pub mod Compare
 pub mod Truth
+pub mod Laws
 pub mod ItemText

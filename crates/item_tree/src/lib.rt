@@ -6,6 +6,7 @@ mod code;
 mod compare;
 mod fault;
 mod item;
+pub mod laws;
 mod number;
 mod text;
 mod truth;
