@@ -72,7 +72,7 @@ object_back ms s ns t h e =
     let p = both (length (pairs ms) == length (pairs ns)) (equal_in ms (pairs ns)) e in
     let l = same_count (length (pairs ms)) (length (pairs ns)) p.0 in
     join (length (pairs ns) == length (pairs ms)) (equal_in ns (pairs ms)) (counts_same (length (pairs ns)) (length (pairs ms)) (sym l))
-      (members_back ms ns h p.1 (all_there (pairs ms) (pairs ns) s.1 l (λ k v f. let q = passes_some (λ w. equal v w) (lookup k (pairs ns)) (found_equal ms (pairs ns) p.1 k v f) in subst IsSome (sym q.1) refl)) ns t.0 (each_found ns t.1))
+    (members_back ms ns h p.1 (all_there (pairs ms) (pairs ns) s.1 l (λ k v f. let q = passes_some (λ w. equal v w) (lookup k (pairs ns)) (found_equal ms (pairs ns) p.1 k v f) in subst IsSome (sym q.1) refl)) ns t.0 (each_found ns t.1))
 
 mutual
   back : (v : Datum) → Sound v → EqualBack v

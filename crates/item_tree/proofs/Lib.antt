@@ -9,4 +9,5 @@ pub mod AtomTexts
 pub mod AtomOrder
 pub mod Members
 pub mod DeepEquality
+mod StringRows
 mod TextRows

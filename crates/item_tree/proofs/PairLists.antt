@@ -59,7 +59,6 @@ repeat_at xs i p lt e d h = record {
   again = rw (key_is xs i p lt e, take_is xs i) h;
 }
 
-
 none_at : (k : List ℕ) (ps : List (List ℕ × Datum)) (i : ℕ) → NoneHas k ps → i < length ps → k ≢ (get_or ps i ([], null)).0
 none_at k [] i n lt = absurd (omega arith)
 none_at k (p ∷ ps) zero n lt = n.0

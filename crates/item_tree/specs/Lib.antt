@@ -9,3 +9,4 @@ pub mod Compare
 pub mod Truth
 pub mod Laws
 pub mod ItemText
+pub mod JsonString

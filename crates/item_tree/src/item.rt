@@ -2,10 +2,9 @@ mod copy;
 mod find;
 mod make;
 
-pub use make::{array_of, object_of, object_of_distinct};
-
 use crate::item::find::{place_among, value_at};
 use crate::{NoMemory, Str, Units, Whole};
+pub use make::{array_of, object_of, object_of_distinct};
 use std::alloc::Global;
 use std::collections::HashMap;
 use std::marker::Model;

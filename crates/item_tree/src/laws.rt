@@ -6,35 +6,29 @@ ghost use Rattle.item_tree.specs.Laws.{KeysAreEquivalent, ItemsAreEquivalent, Se
 /// `same_key` is an equivalence on keys.
 pub fn keys_are_equivalent()
     ensures { KeysAreEquivalent }
-{
-}
+{}
 
 /// `cmp_atoms` is a total order within each class, with null below all else.
 pub fn atomics_are_ordered()
     ensures { AtomicsAreOrdered }
-{
-}
+{}
 
 /// Deep equality is an equivalence on items.
 pub fn items_are_equivalent()
     ensures { ItemsAreEquivalent }
-{
-}
+{}
 
 /// `deep_equal` is an equivalence on sequences.
 pub fn sequences_are_equivalent()
     ensures { SequencesAreEquivalent }
-{
-}
+{}
 
 /// Atomics are deeply equal exactly where they compare as equal.
 pub fn atomics_compare()
     ensures { AtomicsCompare }
-{
-}
+{}
 
 /// How deep arrays and objects are.
 pub fn depths_are_kept()
     ensures { DepthsAreKept }
-{
-}
+{}
