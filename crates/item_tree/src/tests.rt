@@ -1,5 +1,5 @@
 use crate::{
-    Code, Item, MakeFault, Str, Units, Whole, array_of, cmp_atoms, deep_equal, ebv, laws,
+    Code, Item, MakeFault, Pairs, Str, Units, Whole, array_of, cmp_atoms, deep_equal, ebv, laws,
     object_of, object_of_distinct, push_decimal, same_key, text_of,
 };
 use std::alloc::Global;
@@ -19,9 +19,9 @@ fn mark(order: Option<Ordering>) -> char {
     }
 }
 
-// One or two items of each class, with an integer and a decimal that are equal.
+// One or more items of each class, with an integer and a decimal that are equal.
 fn samples(alloc: Global) -> Result<Vec<Item>, Fail> {
-    let items = vec![in alloc;
+    let mut items = vec![in alloc;
         Item::Null,
         Item::Bool(false),
         Item::Bool(true),
@@ -29,12 +29,12 @@ fn samples(alloc: Global) -> Result<Vec<Item>, Fail> {
         Item::Int(Whole::new(1)),
         Item::Dec(Units::new(1_000_000)),
         Item::Dec(Units::new(1_500_000)),
-        text(alloc, "")?,
-        text(alloc, "\u{ffff}")?,
-        text(alloc, "\u{10000}")?,
-        array_of(alloc, Vec::new(alloc))?,
-        object_of(alloc, Vec::new(alloc))?,
     ]?;
+    for s in ["", "\u{ffff}", "\u{10000}"] {
+        items.push(text(alloc, s)?)?;
+    }
+    items.push(array_of(alloc, Vec::new(alloc))?)?;
+    items.push(object_of(alloc, Vec::new(alloc))?)?;
     Ok(items)
 }
 
@@ -67,10 +67,6 @@ fn compares_all_pairs(rt: HostRuntime) -> Result<(), Fail> {
     Ok(())
 }
 
-fn pair(alloc: Global, key: &str, value: Item) -> Result<(Str, Item), Fail> {
-    Ok((Str::of(alloc, key)?, value))
-}
-
 fn whole(n: u32) -> Item {
     Item::Int(Whole::new(i128::from(n)))
 }
@@ -98,13 +94,14 @@ fn finds_the_first_repeat(rt: HostRuntime) -> Result<(), Fail> {
             }
         }
     }
-    // The second repeat and a deep value behind it do not matter.
-    let pairs = vec![in alloc;
-        pair(alloc, "a", Item::Null)?,
-        pair(alloc, "b", Item::Null)?,
-        pair(alloc, "b", Item::Null)?,
-        pair(alloc, "a", nested(alloc, 128)?)?,
-    ]?;
+    Ok(())
+}
+
+#[test]
+fn tells_the_first_cause(rt: HostRuntime) -> Result<(), Fail> {
+    let alloc = rt.alloc();
+    let mut pairs = numbered(alloc, 4, Some(2))?;
+    pairs.push((Str::of(alloc, "k1")?, nested(alloc, 128)?))?;
     assert!(rt; matches!(object_of(alloc, pairs), Err(MakeFault::KeyTwice { at: 2 })));
     Ok(())
 }
@@ -124,17 +121,21 @@ fn keeps_the_depth(rt: HostRuntime) -> Result<(), Fail> {
     for depth in [0, 1, 2, 127, 128] {
         let item = nested(alloc, depth)?;
         assert_eq!(rt; item.depth(), depth);
-        let pairs = vec![in alloc; pair(alloc, "k", item.copy()?)?]?;
-        let items = vec![in alloc; item.copy()?, Item::Null]?;
+        let inside = one(&item, alloc)?;
+        let pairs = vec![in alloc; (Str::of(alloc, "k")?, item)]?;
         if depth < 128 {
             assert_eq!(rt; object_of(alloc, pairs)?.depth(), depth + 1);
-            assert_eq!(rt; array_of(alloc, items)?.depth(), depth + 1);
+            assert_eq!(rt; array_of(alloc, inside)?.depth(), depth + 1);
         } else {
             assert!(rt; matches!(object_of(alloc, pairs), Err(MakeFault::TooDeep)));
-            assert!(rt; matches!(array_of(alloc, items), Err(MakeFault::TooDeep)));
+            assert!(rt; matches!(array_of(alloc, inside), Err(MakeFault::TooDeep)));
         }
     }
     Ok(())
+}
+
+fn one(item: &Item, alloc: Global) -> Result<Vec<Item>, Fail> {
+    Ok(vec![in alloc; item.copy()?]?)
 }
 
 #[test]
@@ -142,110 +143,152 @@ fn equals_deeply(rt: HostRuntime) -> Result<(), Fail> {
     let alloc = rt.alloc();
     let samples = samples(alloc)?;
     for (i, a) in samples.iter().enumerate() {
+        let left = one(a, alloc)?;
+        assert!(rt; !deep_equal(left.as_slice(), &[]));
         for (j, b) in samples.iter().enumerate() {
             let same = i == j || (i == 4 && j == 5) || (i == 5 && j == 4);
-            let left = vec![in alloc; a.copy()?]?;
-            let right = vec![in alloc; b.copy()?]?;
+            let right = one(b, alloc)?;
             assert_eq!(rt;
                 deep_equal(left.as_slice(), right.as_slice()),
                 same,
-                "{a:?} {b:?}"
+                "{i} {j}"
             );
-            assert!(rt; !deep_equal(left.as_slice(), &[]));
         }
     }
-    // Keys in another order, and numbers of two kinds.
-    let numbers = array_of(alloc, vec![in alloc; whole(1), whole(2)]?)?;
-    let decimals = array_of(
-        alloc,
-        vec![in alloc; Item::Dec(Units::new(1_000_000)), whole(2)]?,
-    )?;
-    let turned = array_of(alloc, vec![in alloc; whole(2), whole(1)]?)?;
-    let first = object_of(
-        alloc,
-        vec![in alloc;
-            pair(alloc, "a", numbers.copy()?)?,
-            pair(alloc, "b", Item::Null)?,
-        ]?,
-    )?;
-    let second = object_of(
-        alloc,
-        vec![in alloc; pair(alloc, "b", Item::Null)?, pair(alloc, "a", decimals)?]?,
-    )?;
-    let other_value = object_of(
-        alloc,
-        vec![in alloc; pair(alloc, "b", Item::Null)?, pair(alloc, "a", turned)?]?,
-    )?;
-    let other_key = object_of(
-        alloc,
-        vec![in alloc; pair(alloc, "c", Item::Null)?, pair(alloc, "a", numbers)?]?,
-    )?;
-    assert!(rt; deep_equal(&[first.copy()?], &[second]));
-    assert!(rt; !deep_equal(&[first.copy()?], &[other_value]));
-    assert!(rt; !deep_equal(&[first], &[other_key]));
     Ok(())
 }
 
-// Each of these would take minutes if its time grew with the square of the number of keys, or if a
-// copy took time for each of them.
+// An object of two pairs, the second a list of two items.
+fn object(alloc: Global, keys: (&str, &str), list: (Item, Item)) -> Result<Item, Fail> {
+    let list = array_of(alloc, vec![in alloc; list.0, list.1]?)?;
+    let mut pairs = Vec::new(alloc);
+    pairs.push((Str::of(alloc, keys.0)?, Item::Null))?;
+    pairs.push((Str::of(alloc, keys.1)?, list))?;
+    Ok(object_of(alloc, pairs)?)
+}
+
+fn reversed(alloc: Global, object: Item) -> Result<Item, Fail> {
+    let Item::Object(pairs) = object else {
+        return Ok(object);
+    };
+    let mut pairs = pairs.into_vec()?;
+    pairs.reverse();
+    Ok(object_of(alloc, pairs)?)
+}
+
 #[test]
-fn large_objects_are_fast(rt: HostRuntime) -> Result<(), Fail> {
+fn equals_objects_in_any_order(rt: HostRuntime) -> Result<(), Fail> {
+    let alloc = rt.alloc();
+    let decimal = Item::Dec(Units::new(1_000_000));
+    let first = one(&object(alloc, ("a", "b"), (whole(1), whole(2)))?, alloc)?;
+    let second = one(
+        &reversed(alloc, object(alloc, ("a", "b"), (decimal, whole(2)))?)?,
+        alloc,
+    )?;
+    let turned = one(&object(alloc, ("a", "b"), (whole(2), whole(1)))?, alloc)?;
+    let renamed = one(&object(alloc, ("a", "c"), (whole(1), whole(2)))?, alloc)?;
+    assert!(rt; deep_equal(first.as_slice(), second.as_slice()));
+    assert!(rt; !deep_equal(first.as_slice(), turned.as_slice()));
+    assert!(rt; !deep_equal(first.as_slice(), renamed.as_slice()));
+    Ok(())
+}
+
+// Each of the next two would take minutes if its time grew with the square of the number of keys,
+// or if a copy took time for each of them.
+#[test]
+fn compares_large_objects(rt: HostRuntime) -> Result<(), Fail> {
     let alloc = rt.alloc();
     let pairs = numbered(alloc, 200_000, None)?;
-    let mut turned = pairs.clone()?;
-    turned.reverse();
     let first = object_of(alloc, pairs)?;
-    let second = object_of_distinct(alloc, turned)?;
-    assert!(rt; deep_equal(&[first.copy()?], &[second]));
-    let mut copies = Vec::new(alloc);
+    let second = one(&reversed(alloc, first.copy()?)?, alloc)?;
+    let first = one(&first, alloc)?;
+    assert!(rt; deep_equal(first.as_slice(), second.as_slice()));
     for _ in 0..1_000_000 {
-        copies.push(first.copy()?)?;
+        let _copy = one(&first[0], alloc)?;
     }
-    let Item::Object(pairs) = first else {
-        assert!(rt; false);
-        return Ok(());
-    };
-    for i in 0..200_000 {
-        let key = Str::from_string(alloc, format!(in alloc; "k{i}")?)?;
-        let found = pairs.get(&key).map(|x| mark(cmp_atoms(x, &whole(i))));
-        assert_eq!(rt; found, Some('='));
-    }
-    assert!(rt; pairs.get(&Str::of(alloc, "k")?).is_none());
     Ok(())
 }
 
 #[test]
-fn gives_texts(rt: HostRuntime) -> Result<(), Fail> {
+fn looks_up_keys(rt: HostRuntime) -> Result<(), Fail> {
     let alloc = rt.alloc();
-    let rows = [
-        (Item::Null, "null"),
-        (Item::Bool(true), "true"),
-        (Item::Bool(false), "false"),
-        (Item::Int(Whole::new(0)), "0"),
-        (Item::Int(Whole::new(-7)), "-7"),
-        (
-            Item::Int(Whole::new(99_999_999_999_999_999_999)),
-            "99999999999999999999",
-        ),
-        (Item::Dec(Units::new(0)), "0"),
-        (Item::Dec(Units::new(100_000_000)), "100"),
-        (Item::Dec(Units::new(1_500_000)), "1.5"),
-        (Item::Dec(Units::new(1)), "0.000001"),
-        (Item::Dec(Units::new(-1)), "-0.000001"),
-        (Item::Dec(Units::new(-12_050_000)), "-12.05"),
-        (
-            Item::Dec(Units::new(99_999_999_999_999_999_999_999_999)),
-            "99999999999999999999.999999",
-        ),
-        (text(alloc, "m\u{fc}\"\n")?, "m\u{fc}\"\n"),
+    for count in [3, 200_000] {
+        let Item::Object(pairs) = object_of(alloc, numbered(alloc, count, None)?)? else {
+            return Ok(());
+        };
+        for i in 0..count {
+            let key = Str::from_string(alloc, format!(in alloc; "k{i}")?)?;
+            assert_eq!(rt; mark_at(&pairs, &key, i), '=');
+        }
+        assert_eq!(rt; mark_at(&pairs, &Str::of(alloc, "k")?, 0), '-');
+    }
+    Ok(())
+}
+
+fn mark_at(pairs: &Pairs, key: &Str, n: u32) -> char {
+    match pairs.get(key) {
+        None => '-',
+        Some(x) => mark(cmp_atoms(x, &whole(n))),
+    }
+}
+
+#[test]
+fn takes_distinct_keys(rt: HostRuntime) -> Result<(), Fail> {
+    let alloc = rt.alloc();
+    assert_eq!(rt; object_of_distinct(alloc, Vec::new(alloc))?.depth(), 1);
+    let pairs = vec![in alloc; (Str::of(alloc, "k")?, nested(alloc, 128)?)]?;
+    assert!(rt; matches!(object_of_distinct(alloc, pairs), Err(MakeFault::TooDeep)));
+    Ok(())
+}
+
+#[test]
+fn gives_texts_of_numbers(rt: HostRuntime) -> Result<(), Fail> {
+    let alloc = rt.alloc();
+    let wholes = [
+        (0, "0"),
+        (-7, "-7"),
+        (99_999_999_999_999_999_999, "99999999999999999999"),
     ];
-    for (item, want) in rows {
-        let text = text_of(alloc, &item)?;
+    for (n, want) in wholes {
+        assert!(rt; -WHOLE_LIMIT < n && n < WHOLE_LIMIT);
+        let text = text_of(alloc, &Item::Int(Whole::new(n)))?;
         assert_eq!(rt; text.as_str(), want);
     }
-    let mut text = String::from_str(alloc, "at ")?;
-    push_decimal(&mut text, Units::new(2_340_000))?;
-    assert_eq!(rt; text.as_str(), "at 2.34");
+    let decimals = [
+        (0, "0"),
+        (100_000_000, "100"),
+        (1_500_000, "1.5"),
+        (1, "0.000001"),
+        (-1, "-0.000001"),
+        (-12_050_000, "-12.05"),
+        (
+            99_999_999_999_999_999_999_999_999,
+            "99999999999999999999.999999",
+        ),
+    ];
+    for (m, want) in decimals {
+        assert!(rt; -UNITS_LIMIT < m && m < UNITS_LIMIT);
+        let text = text_of(alloc, &Item::Dec(Units::new(m)))?;
+        assert_eq!(rt; text.as_str(), want);
+        let mut text = String::new(alloc);
+        push_decimal(&mut text, Units::new(m))?;
+        assert_eq!(rt; text.as_str(), want);
+    }
+    Ok(())
+}
+
+const WHOLE_LIMIT: i128 = 100_000_000_000_000_000_000;
+
+const UNITS_LIMIT: i128 = 100_000_000_000_000_000_000_000_000;
+
+#[test]
+fn gives_other_texts(rt: HostRuntime) -> Result<(), Fail> {
+    let alloc = rt.alloc();
+    assert_eq!(rt; text_of(alloc, &Item::Null)?.as_str(), "null");
+    assert_eq!(rt; text_of(alloc, &Item::Bool(true))?.as_str(), "true");
+    assert_eq!(rt; text_of(alloc, &Item::Bool(false))?.as_str(), "false");
+    let string = Item::Text(Str::of(alloc, "m\u{fc}\"\n")?);
+    assert_eq!(rt; text_of(alloc, &string)?.as_str(), "m\u{fc}\"\n");
     Ok(())
 }
 
@@ -255,7 +298,8 @@ fn has_boolean_values(rt: HostRuntime) -> Result<(), Fail> {
     let items = samples(alloc)?;
     let wants = "001111101111";
     for (item, want) in items.iter().zip(wants.chars()) {
-        assert_eq!(rt; ebv(&[item.copy()?]), Ok(want == '1'), "{item:?}");
+        let sequence = one(item, alloc)?;
+        assert_eq!(rt; ebv(sequence.as_slice()), Ok(want == '1'), "{item:?}");
     }
     assert_eq!(rt; ebv(&[]), Ok(false));
     assert_eq!(rt; ebv(&[Item::Int(Whole::new(0))]), Ok(false));
@@ -266,7 +310,7 @@ fn has_boolean_values(rt: HostRuntime) -> Result<(), Fail> {
 }
 
 #[test]
-fn gives_lists_back(rt: HostRuntime) -> Result<(), Fail> {
+fn gives_items_back(rt: HostRuntime) -> Result<(), Fail> {
     let alloc = rt.alloc();
     let Item::Array(items) = array_of(alloc, samples(alloc)?)? else {
         return Ok(());
@@ -275,6 +319,12 @@ fn gives_lists_back(rt: HostRuntime) -> Result<(), Fail> {
     assert_eq!(rt; items.as_slice().len(), 12);
     assert_eq!(rt; shared.into_vec()?.len(), 12);
     assert_eq!(rt; items.into_vec()?.len(), 12);
+    Ok(())
+}
+
+#[test]
+fn gives_pairs_back(rt: HostRuntime) -> Result<(), Fail> {
+    let alloc = rt.alloc();
     let Item::Object(pairs) = object_of(alloc, numbered(alloc, 40, None)?)? else {
         return Ok(());
     };
@@ -282,9 +332,17 @@ fn gives_lists_back(rt: HostRuntime) -> Result<(), Fail> {
     assert_eq!(rt; pairs.as_slice().len(), 40);
     assert_eq!(rt; shared.into_vec()?.len(), 40);
     assert_eq!(rt; pairs.into_vec()?.len(), 40);
+    Ok(())
+}
+
+#[test]
+fn compares_strings(rt: HostRuntime) -> Result<(), Fail> {
+    let alloc = rt.alloc();
     let key = Str::of(alloc, "k")?;
+    let other = Str::of(alloc, "l")?;
     assert!(rt; key == key.copy()?);
-    assert_eq!(rt; key.compare(&Str::of(alloc, "l")?), Ordering::Less);
+    assert!(rt; key != other);
+    assert_eq!(rt; key.compare(&other), Ordering::Less);
     assert_eq!(rt; Whole::new(2).units(), 2_000_000);
     Ok(())
 }
