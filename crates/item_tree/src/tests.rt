@@ -200,12 +200,12 @@ fn compares_large_objects(rt: HostRuntime) -> Result<(), Fail> {
     let alloc = rt.alloc();
     let pairs = numbered(alloc, 200_000, None)?;
     let first = object_of(alloc, pairs)?;
+    for _ in 0..1_000_000 {
+        let _copy = first.copy()?;
+    }
     let second = one(&reversed(alloc, first.copy()?)?, alloc)?;
     let first = one(&first, alloc)?;
     assert!(rt; deep_equal(first.as_slice(), second.as_slice()));
-    for _ in 0..1_000_000 {
-        let _copy = one(&first[0], alloc)?;
-    }
     Ok(())
 }
 
@@ -344,6 +344,16 @@ fn compares_strings(rt: HostRuntime) -> Result<(), Fail> {
     assert!(rt; key != other);
     assert_eq!(rt; key.compare(&other), Ordering::Less);
     assert_eq!(rt; Whole::new(2).units(), 2_000_000);
+    Ok(())
+}
+
+fn crosses_threads<T: Send + Sync>(_value: &T) {}
+
+#[test]
+fn items_cross_threads(rt: HostRuntime) -> Result<(), Fail> {
+    let alloc = rt.alloc();
+    crosses_threads(&Str::of(alloc, "k")?);
+    crosses_threads(&object_of(alloc, numbered(alloc, 40, None)?)?);
     Ok(())
 }
 
