@@ -2,15 +2,14 @@
 use Rattle.std.proofs.Common.{◌≡◌, ◌≢◌, Bool, true, false, Option, Some, None, option_map, if◌then◌else◌, refl, sym, ap, ◌∙◌}
 use Rattle.std.specs.Cmp.{bool_cmp_total}
 use Rattle.std.specs.Option.{IsSome}
-use Rattle.std.specs.Ordering.{ordering_reverse, bool_cmp, int_cmp, nat_cmp}
-use Rattle.std.specs.Cmp.Lexicographic.{slice_cmp}
+use Rattle.std.specs.Ordering.{ordering_reverse, bool_cmp}
 use Rattle.std.specs.declared.cmp.Ordering.{Ordering}
 use Rattle.std.specs.declared.cmp.Ordering.TheVariants.{Less, Equal, Greater}
 use Rattle.std.proofs.lemmas.Cmp.{tied_itself, int_cmp_total, nat_list_cmp_total}
 use Rattle.std.proofs.lemmas.Map.Lookups.{exact_signed, exact_bytes}
 use Rattle.item_tree.specs.Datum.{Datum, null, boolean, integer, decimal, text, array, object, IsAtomic, is_null}
 use Rattle.item_tree.specs.Compare.{Atom, nothing, truth, number, string, atom, order, order_if, compare_atoms, is_equal, same_keys, whole_units}
-use Rattle.item_tree.specs.Laws.{IsEquivalenceOn, IsKey, KeysAreEquivalent, AtomicsAreOrdered, Class, nulls, booleans, numbers, strings, class_of}
+use Rattle.item_tree.specs.Laws.{IsKey, KeysAreEquivalent, AtomicsAreOrdered, Class, nulls, booleans, numbers, strings, class_of}
 
 inside : (o p : Ordering) → Some o ≡ Some p → o ≡ p
 inside o p e = cc

@@ -1,11 +1,11 @@
 -- Deep equality is an equivalence.
-use Rattle.std.proofs.Common.{◌≡◌, ℕ, Bool, true, false, ◌&&◌, ◌==◌, List, [], ◌∷◌, length, refl, sym, ap, subst, ◌∙◌, arith, Option, Some, None}
+use Rattle.std.proofs.Common.{◌≡◌, ℕ, Bool, true, ◌&&◌, ◌==◌, List, length, refl, sym, ap, subst, ◌∙◌, arith, Option, Some, None}
 use Rattle.std.specs.Option.{IsSome}
 use Rattle.std.proofs.lemmas.Bool.Decides.{nat_tests}
-use Rattle.item_tree.specs.Datum.{Datum, null, boolean, integer, decimal, text, array, object, Data, no_values, value, Members, no_members, member, pairs, values, Sound, AllSound, MembersSound, KeysDiffer, IsAtomic}
+use Rattle.item_tree.specs.Datum.{Datum, null, boolean, integer, decimal, text, array, object, Data, no_values, value, Members, no_members, member, pairs, values, Sound, AllSound, MembersSound}
 use Rattle.item_tree.specs.Lookup.{lookup}
-use Rattle.item_tree.specs.Compare.{equal, equal_data, equal_in, equal_lists, passes, compare_atoms, is_equal}
-use Rattle.item_tree.specs.Laws.{IsEquivalenceOn, ItemsAreEquivalent, SequencesAreEquivalent, AtomicsCompare}
+use Rattle.item_tree.specs.Compare.{equal, equal_data, equal_in, passes, compare_atoms, is_equal}
+use Rattle.item_tree.specs.Laws.{ItemsAreEquivalent, SequencesAreEquivalent, AtomicsCompare}
 use Rattle.item_tree.proofs.AtomOrder.{compare-same, equal_back, equal_along, atomic_right}
 use Rattle.item_tree.proofs.Members.{EachMember, EachValue, both, value_of, each_found, passes_some, found_equal, all_there}
 

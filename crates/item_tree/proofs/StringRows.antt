@@ -1,6 +1,6 @@
 -- Strings of JSON, and what they spell.
 use Rattle.std.proofs.Common.{inl, inr}
-use Rattle.std.specs.Prelude.{◌≡◌, List, ℕ, [], ◌∷◌, Option, Some, None, codes, refl}
+use Rattle.std.specs.Prelude.{◌≡◌, [], ◌∷◌, Some, None, codes, refl}
 use lib.Utf8.{encode}
 use Rattle.item_tree.specs.JsonString.{byte, unit, code_unit, content, IsString, short_escape}
 

@@ -1,5 +1,5 @@
 -- Texts of items, as they are told in the documentation.
-use Rattle.std.specs.Prelude.{◌≡◌, List, ℕ, [], ◌∷◌, codes, pos, negsuc, refl}
+use Rattle.std.specs.Prelude.{◌≡◌, [], ◌∷◌, codes, pos, negsuc, refl}
 use Rattle.std.specs.Fmt.{digits}
 use lib.Utf8.{encode}
 use Rattle.item_tree.specs.Datum.{integer, decimal, text, array, object, null, value, no_values, member, no_members}

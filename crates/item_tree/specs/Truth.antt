@@ -1,5 +1,5 @@
 -- The effective boolean value.
-use Rattle.std.specs.Prelude.{ℕ, zero, suc, ℤ, pos, negsuc, Bool, true, false, Result, Ok, Err, List, [], ◌∷◌}
+use Rattle.std.specs.Prelude.{zero, suc, ℤ, pos, negsuc, Bool, true, false, Result, Ok, Err, List, [], ◌∷◌}
 use Rattle.item_tree.specs.declared.code.Code.{Code}
 use Rattle.item_tree.specs.declared.code.Code.TheVariants.{FORG0006}
 use Rattle.item_tree.specs.Datum.{Datum, null, boolean, integer, decimal, text, array, object}

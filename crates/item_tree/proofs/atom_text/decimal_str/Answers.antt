@@ -1,5 +1,4 @@
-use Rattle.std.proofs.Common.{◌≡◌, ◌∙◌, ap, subst, IfOk}
-use Rattle.std.specs.Str.{chars}
+use Rattle.std.proofs.Common.{◌≡◌}
 use Rattle.std.specs.String.{string_bytes}
 use Rattle.item_tree.specs.ItemText.{decimal_text}
 use Rattle.item_tree.proofs.AtomTexts.{chars_decimal}

@@ -1,4 +1,4 @@
-use Rattle.std.proofs.Common.{◌<◌, ◌+◌, length, arith, sym, ap, subst}
+use Rattle.std.proofs.Common.{◌<◌, ◌+◌, length, arith, sym, subst}
 use Rattle.std.proofs.lemmas.Fmt.{decimal_nonempty}
 use Rattle.item_tree.proofs.atom_text.push_fraction.Goals as goal
 

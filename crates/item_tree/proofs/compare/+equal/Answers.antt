@@ -1,4 +1,4 @@
-use Rattle.std.proofs.Common.{◌≡◌, ◌≢◌, false, true, Some, None, length, sym, ◌∙◌, ap, arith}
+use Rattle.std.proofs.Common.{◌≡◌, false, true, sym, ◌∙◌, ap, arith}
 use Rattle.item_tree.specs.Compare.{equal, passes}
 use Rattle.item_tree.specs.Item.{datum}
 use Rattle.item_tree.specs.Lookup.{lookup}

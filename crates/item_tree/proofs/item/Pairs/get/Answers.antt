@@ -1,4 +1,4 @@
-use Rattle.std.proofs.Common.{◌≡◌, None, Some, sym, ◌∙◌, subst}
+use Rattle.std.proofs.Common.{◌≡◌, Some, sym, ◌∙◌, subst}
 use Rattle.item_tree.specs.Item.{datum, pair_datums}
 use Rattle.item_tree.specs.Lookup.{place_of, lookup}
 use Rattle.item_tree.proofs.Places.{lookup_none, lookup_at, place_inside_pairs}

@@ -1,10 +1,10 @@
-use Rattle.std.proofs.Common.{◌≡◌, true, false, Some, None, cond, take, sym, ◌∙◌, ap, subst}
+use Rattle.std.proofs.Common.{◌≡◌, true, Some, None, cond, take, sym, ◌∙◌, ap}
 use Rattle.std.specs.Option.{is_some}
 use Rattle.std.specs.Str.{bytes_eq}
 use Rattle.item_tree.specs.Item.{pair_datums}
 use Rattle.item_tree.specs.Lookup.{place_of}
 use Rattle.item_tree.proofs.PairLists.{repeat_at, differ_more}
-use Rattle.item_tree.proofs.Places.{none_from, has_from, place_more, place_added}
+use Rattle.item_tree.proofs.Places.{none_from, has_from, place_added}
 use Rattle.item_tree.proofs.item.make.places_of.Goals as goal
 
 pub returns-in-Ok-Some : goal.returns-in-Ok-Some
