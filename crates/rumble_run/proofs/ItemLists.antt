@@ -1,21 +1,18 @@
 -- The items of an input, line by line.
 use Rattle.std.proofs.Common.{◌≡◌, ◌<◌, ℕ, ◌+◌, List, [], ◌∷◌, ◌++◌, append_assoc, subst, Bool, true, false, not, cond, ◌==◌, nat_eq, Option, None, Some, Result, Ok, Err, length, drop, map, refl, sym, ap, ◌∙◌, arith}
-use Rattle.std.specs.Prelude.{filter, IfSome, ◌^◌, nat_lt, pos, neg_ℤ, if◌then◌else◌}
-use Rattle.std.specs.Str.Parse.{digits_value}
-use Rattle.item_tree.specs.declared.code.Code.TheVariants.{PJDY0004, PJDY0099}
+use Rattle.std.specs.Prelude.{filter, IfSome}
 use Rattle.std.specs.List.{onto_first, starts_with, join_with_byte}
 use Rattle.std.proofs.lemmas.Bool.Decides.{Decides-eqb}
 use Rattle.std.proofs.lemmas.List.Splits.{length-slice_split, join_with_byte-slice_split}
 use Rattle.std.proofs.lemmas.List.{append-nil, map-append}
 use Rattle.std.proofs.lemmas.Slice.Eq.{starts_is}
-use Rattle.item_tree.specs.Datum.{Datum, integer}
+use Rattle.item_tree.specs.Datum.{Datum}
 use Rattle.item_tree.specs.declared.code.Code.{Code}
 use Rattle.item_reader.specs.Lines.{Line, mark, cut, placed, unmarked, without_mark, is_blank}
-use Rattle.item_reader.specs.Reading.{Reading, blank, item, fault, reading, is_int, bounded, reading_of_digits, reading_of_text, without_first_spaces, without_last_spaces, read_before, items_of, items_of_lines}
+use Rattle.item_reader.specs.Reading.{blank, item, fault, reading, read_before, items_of, items_of_lines}
 use Rattle.item_tree.specs.declared.item.Item.{Item}
 use Rattle.item_tree.specs.Item.{datum, datums}
 use Rattle.rumble_run.specs.Cuts.{lines_of}
-use Rattle.rumble_run.specs.Integers.{IsInteger, AreIntegers}
 
 -- the items of lines without their offsets
 abbrev pub items_of_cut : List (List ℕ) → Result (List Datum) Code
@@ -115,47 +112,14 @@ items_of-cut input =
     without_blanks (unmarked (placed 0 (cut input)))
     ∙ ap items_of_cut (bytes-unmarked (placed 0 (cut input)) ∙ ap unmarked_first (bytes-placed 0 (cut input)) ∙ unmarked-cut input)
 
--- ---- each item is an integer
-
-abbrev IsIntegerReading : Reading → Type 0
-IsIntegerReading blank = Unit {0}
-IsIntegerReading (item x) = IsInteger x
-IsIntegerReading (fault c) = Unit {0}
-
-either : (b : Bool) (r s : Reading) → IsIntegerReading r → IsIntegerReading s → IsIntegerReading (cond b r s)
-either true r s h k = h
-either false r s h k = k
-
-integer_bounded : (negative : Bool) (n : ℕ) → IsIntegerReading (bounded negative n)
-integer_bounded negative n = either (nat_lt n (10 ^ 20)) (item (integer (if negative then neg_ℤ (pos n) else pos n))) (fault PJDY0004) tt tt
-
-integer_digits : (negative : Bool) (ds : List ℕ) → IsIntegerReading (reading_of_digits negative ds)
-integer_digits negative ds = either (is_int ds) (bounded negative (digits_value 10 ds)) (fault PJDY0099) (integer_bounded negative (digits_value 10 ds)) tt
-
-integer_text : (text : List ℕ) → IsIntegerReading (reading_of_text text)
-integer_text [] = tt
-integer_text (b ∷ bs) = either (b == 45) (reading_of_digits true bs) (reading_of_digits false (b ∷ bs)) (integer_digits true bs) (integer_digits false (b ∷ bs))
-
-integer_line : (line : List ℕ) → IsIntegerReading (reading line)
-unfolding reading
-integer_line line = let text = without_last_spaces (without_first_spaces line) in either (is_blank line) blank (reading_of_text text) tt (integer_text text)
-
-IsInteger-reading : (line : List ℕ) (x : Datum) → reading line ≡ item x → IsInteger x
-IsInteger-reading line x e = subst IsIntegerReading e (integer_line line)
-
-AreIntegers-push : (xs : List Datum) (x : Datum) → AreIntegers xs → IsInteger x → AreIntegers (xs ++ x ∷ [])
-AreIntegers-push [] x h k = (k, tt)
-AreIntegers-push (y ∷ ys) x h k = (h.0, AreIntegers-push ys x h.1 k)
-
 -- ---- a loop over the lines
 
 -- the items so far, before those of what is left, are the items of the input
 pub record IsSoFar (input : List ℕ) (items : List Item) (left : Option (List ℕ)) : Type 0 where
   pub whole : followed (datums items) (items_of_cut (lines_of left)) ≡ items_of input
-  pub integers : AreIntegers (datums items)
 
 pub at_first : (input bytes : List ℕ) (items : List Item) → items ≡ [] → bytes ≡ without_mark input → IsSoFar input items (Some bytes)
-at_first input bytes items e m = rw (e, m) (record { whole = sym (items_of-cut input); integers = tt })
+at_first input bytes items e m = rw (e, m) (record { whole = sym (items_of-cut input) })
 
 next_line : (input line bytes : List ℕ) (items : List Item) (behind : Option (List ℕ)) → IsSoFar input items (Some bytes) → cut bytes ≡ line ∷ lines_of behind
     → followed (datums items) (read_before (reading line) (items_of_cut (lines_of behind))) ≡ items_of input
@@ -165,16 +129,15 @@ pub past_blank : (input line bytes : List ℕ) (items : List Item) (behind : Opt
     → reading line ≡ blank → IsSoFar input items behind
 past_blank input line bytes items behind h e r = record {
   whole = ap (λ k. followed (datums items) (read_before k (items_of_cut (lines_of behind)))) (sym r) ∙ next_line input line bytes items behind h e;
-  integers = h.integers;
 }
 
 pub past_item : (input line bytes : List ℕ) (items : List Item) (x : Item) (behind : Option (List ℕ)) → IsSoFar input items (Some bytes) → cut bytes ≡ line ∷ lines_of behind
     → reading line ≡ item (datum x) → IsSoFar input (items ++ x ∷ []) behind
 past_item input line bytes items x behind h e r =
     let pushed : datums (items ++ x ∷ []) ≡ datums items ++ datum x ∷ [] = map-append datum items (x ∷ []) in record {
-      whole = ap (λ xs. followed xs (items_of_cut (lines_of behind))) pushed ∙ followed-push (datums items) (datum x) (items_of_cut (lines_of behind))
+      whole = ap (λ xs. followed xs (items_of_cut (lines_of behind))) pushed
+          ∙ followed-push (datums items) (datum x) (items_of_cut (lines_of behind))
           ∙ ap (λ k. followed (datums items) (read_before k (items_of_cut (lines_of behind)))) (sym r) ∙ next_line input line bytes items behind h e;
-      integers = subst AreIntegers (sym pushed) (AreIntegers-push (datums items) (datum x) h.integers (IsInteger-reading line (datum x) r));
     }
 
 pub at_fault : (input line bytes : List ℕ) (items : List Item) (behind : Option (List ℕ)) (code : Option Code) → IsSoFar input items (Some bytes) → cut bytes ≡ line ∷ lines_of behind

@@ -4,5 +4,4 @@ pub mod Answer
 pub mod Ends
 pub mod Reads
 pub mod Seen
-pub mod Integers
 pub mod Cuts

@@ -3,7 +3,6 @@ ghost use Rattle.std.specs.Str.{encode_utf8_all};
 ghost use Rattle.item_tree.specs.Item.{datums};
 ghost use Rattle.rumble_run.specs.Answer.{answer, query_of, of_query, of_result, input_items, says, prints, fault_text, usage};
 ghost use Rattle.rumble_run.specs.Ends.{IsBalanced, OpensBy};
-ghost use Rattle.rumble_run.specs.Integers.{AreIntegers};
 ghost use Rattle.rumble_run.specs.Reads.{CausedBy};
 ghost use Rattle.rumble_run.specs.Seen.{answer_of, IsShaped, IsOfQuery};
 
@@ -15,7 +14,7 @@ use crate::print::print_items;
 use crate::read::read_named;
 use crate::status::{Status, Stop};
 use crate::words::query_of;
-use item_tree::{Code, Fault, Item, Str};
+use item_tree::{Code, Fault, Item, NoMemory, Str};
 use outside::Inputs;
 use std::alloc::{AllocError, Global};
 
@@ -67,8 +66,7 @@ fn tells_fault(
 }
 
 // An ending that prints items.
-fn prints(alloc: Global, items: &[Item]) -> Result<Ending, AllocError>
-    requires { AreIntegers (datums items.now) }
+fn prints(alloc: Global, items: &[Item]) -> Result<Ending, NoMemory>
     ensures { IfOk result (λ e. answer_of e ≡ prints (datums items.now)) }
 {
     Ok(Ending {

@@ -1,4 +1,5 @@
 use crate::status::{Status, Stop};
+use item_tree::NoMemory as OutOfMemory;
 use std::alloc::{AllocError, AllocFailed};
 
 /// What a command line comes to: a status, with the bytes for the output and the text for the errors.
@@ -27,6 +28,17 @@ impl<T: Drop> From<AllocFailed<T>> for Stop {
     ghost from_gives = { λ _ e. e ≡ NoMemory };
 
     fn from(_e: AllocFailed<T>) -> Stop {
+        Stop::NoMemory
+    }
+}
+
+impl From<OutOfMemory> for Stop {
+    ghost use Rattle.std.specs.Prelude.{◌≡◌};
+    ghost use Rattle.rumble_run.specs.declared.status.Stop.TheVariants.{NoMemory};
+
+    ghost from_gives = { λ _ e. e ≡ NoMemory };
+
+    fn from(_e: OutOfMemory) -> Stop {
         Stop::NoMemory
     }
 }

@@ -4,7 +4,6 @@ ghost use Rattle.item_reader.specs.Lines.{cut, without_mark};
 ghost use Rattle.item_reader.specs.Reading.{items_of};
 ghost use Rattle.item_reader.specs.Faults.{code_of};
 ghost use Rattle.rumble_run.specs.Cuts.{lines_of, left_length};
-ghost use Rattle.rumble_run.specs.Integers.{AreIntegers};
 
 use item_reader::{LineFault, read_item};
 use item_tree::Item;
@@ -52,7 +51,6 @@ fn keep(items: &mut Vec<Item>, item: Item) -> Result<(), LineFault>
 /// The items of an input's lines in order, or the fault of the first line that has one.
 pub(crate) fn read_items(alloc: Global, input: &[u8]) -> Result<Vec<Item>, LineFault>
     ensures items { IfOk result (λ v. items_of input.now ≡ Ok (datums v.items)) }
-    ensures integers { IfOk result (λ v. AreIntegers (datums v.items)) }
     ensures fault { IfErr result (λ f. IfSome (code_of f) (λ c. items_of input.now ≡ Err c)) }
 {
     let mut items = Vec::new(alloc);

@@ -1,0 +1,84 @@
+ghost use Rattle.std.specs.Prelude.{◌≡◌, ◌<◌, ◌++◌, true, false, OnOk, OnErr, position};
+ghost use Rattle.std.specs.Fmt.{digit_glyph};
+ghost use Rattle.item_tree.specs.ItemText.{string_text, control_text};
+ghost use Rattle.item_printer.specs.Cut.{IsCut};
+ghost use Rattle.item_printer.specs.StringBytes.{byte_text, bytes_text, is_escaped};
+
+use crate::append::{append, append_byte};
+use item_tree::{NoMemory, Str};
+
+#[tactic(auto, using(crate::proofs::Cuts::cuts, crate::proofs::StringTexts::characters_text_of))]
+pub(crate) fn print_string(text: &Str, out: &mut Vec<u8>) -> Result<(), NoMemory>
+    ensures ok { OnOk result (out.new.items ≡ out.old.items ++ string_text text.now) }
+    ensures err { OnErr result (IsCut (string_text text.now) out.old.items out.new.items) }
+{
+    append_byte(b'"', out)?;
+    print_bytes(text.as_str().as_bytes(), out)?;
+    append_byte(b'"', out)
+}
+
+// Each stretch without escapes is appended as a whole.
+fn print_bytes(bytes: &[u8], out: &mut Vec<u8>) -> Result<(), NoMemory>
+    ensures ok { OnOk result (out.new.items ≡ out.old.items ++ bytes_text bytes.now) }
+    ensures err { OnErr result (IsCut (bytes_text bytes.now) out.old.items out.new.items) }
+{
+    let mut rest = bytes;
+    while let Some(at) = first_escaped(rest) {
+        append(&rest[..at], out)?;
+        print_escape(rest[at], out)?;
+        rest = rest.split_at(at + 1).1;
+    }
+    append(rest, out)
+}
+
+fn first_escaped(bytes: &[u8]) -> Option<usize>
+    ensures { result ≡ position is_escaped bytes.now }
+{
+    bytes
+        .iter()
+        .position(|b| *b < 32 || *b == b'"' || *b == b'\\')
+}
+
+fn print_escape(byte: u8, out: &mut Vec<u8>) -> Result<(), NoMemory>
+    requires { is_escaped byte ≡ true }
+    ensures ok { OnOk result (out.new.items ≡ out.old.items ++ byte_text byte) }
+    ensures err { OnErr result (IsCut (byte_text byte) out.old.items out.new.items) }
+{
+    match byte {
+        b'"' => append(b"\\\"", out),
+        b'\\' => append(b"\\\\", out),
+        8 => append(b"\\b", out),
+        b'\t' => append(b"\\t", out),
+        b'\n' => append(b"\\n", out),
+        12 => append(b"\\f", out),
+        b'\r' => append(b"\\r", out),
+        _ => print_control(byte, out),
+    }
+}
+
+fn print_control(byte: u8, out: &mut Vec<u8>) -> Result<(), NoMemory>
+    requires { byte < 32 }
+    ensures ok { OnOk result (out.new.items ≡ out.old.items ++ control_text byte) }
+    ensures err { OnErr result (IsCut (control_text byte) out.old.items out.new.items) }
+{
+    let escape = [
+        b'\\',
+        b'u',
+        b'0',
+        b'0',
+        hex_digit(byte / 16),
+        hex_digit(byte % 16),
+    ];
+    append(&escape, out)
+}
+
+fn hex_digit(digit: u8) -> u8
+    requires { digit < 16 }
+    ensures { result ≡ digit_glyph false digit }
+{
+    if digit < 10 {
+        b'0' + digit
+    } else {
+        b'a' - 10 + digit
+    }
+}
