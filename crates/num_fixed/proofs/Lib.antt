@@ -1,0 +1,12 @@
+pub mod DigitLemmas
+pub mod DivisionLemmas
+pub mod FarLemmas
+pub mod NearestLemmas
+pub mod Outcomes
+pub mod Reading
+pub mod RoundingLemmas
+pub mod ScaleLemmas
+pub mod Signs
+pub mod TotalLemmas
+pub mod TextLemmas
+pub mod NumeralLemmas

@@ -1,0 +1,5 @@
+use Rattle.num_fixed.proofs.NearestLemmas.{some_nearest, one_nearest}
+use Rattle.num_fixed.proofs.laws.one_nearest.Goals as goal
+
+pub returns : goal.returns
+returns c = record { some = some_nearest; one = one_nearest }

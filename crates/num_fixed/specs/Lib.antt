@@ -1,0 +1,9 @@
+pub mod Bounds
+pub mod Digits
+pub mod Nearest
+pub mod Numeral
+pub mod Quotients
+pub mod Rounding
+pub mod Scan
+pub mod Signs
+pub mod Totals
