@@ -1,0 +1,23 @@
+pub mod NumeralLemmas
+pub mod StringLemmas
+pub mod TokenLemmas
+pub mod RunLemmas
+pub mod Events
+pub mod CompleteLemmas
+pub mod UniqueLemmas
+pub mod SoundLemmas
+pub mod NumberLemmas
+pub mod ItemOf
+pub mod BuildLemmas
+pub mod ReadingLemmas
+pub mod FitLemmas
+pub mod SoundItems
+pub mod Utf8Lemmas
+pub mod LoopLemmas
+pub mod NumeralTexts
+pub mod SpellLemmas
+pub mod DecimalDigits
+pub mod PrintedNumbers
+pub mod PrintedStrings
+pub mod PrintedItems
+mod Rows

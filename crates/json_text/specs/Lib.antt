@@ -1,0 +1,10 @@
+pub mod Raw
+pub mod Json
+pub mod Meaning
+pub mod Line
+pub mod Scan
+pub mod Machine
+pub mod Build
+pub mod Fits
+pub mod Plain
+pub mod Laws
