@@ -35,7 +35,7 @@ number_behind n (b ∷ r) =
     let g : n * 10 ^ length (b ∷ r) ≡ n * (10 * 10 ^ length r) = ap (λ k. n * k) p in
     omega arith
 
-number-append : (n : ℕ) (a b : List ℕ) → number_of n (a ++ b) ≡ number_of (number_of n a) b
+pub number-append : (n : ℕ) (a b : List ℕ) → number_of n (a ++ b) ≡ number_of (number_of n a) b
 number-append n [] b = refl
 number-append n (x ∷ a) b = number-append (n * 10 + (x - 48)) a b
 
@@ -126,7 +126,7 @@ nearest_rounded n p kept last rest.Half e l h = elim (cases_Bool (kept % 2 == 1)
 ]
 
 -- digits split before the last few
-split_number : (front back : List ℕ) → number_of 0 (front ++ back) ≡ number_of 0 front * 10 ^ length back + number_of 0 back
+pub split_number : (front back : List ℕ) → number_of 0 (front ++ back) ≡ number_of 0 front * 10 ^ length back + number_of 0 back
 split_number front back = number-append 0 front back ∙ number_behind (number_of 0 front) back
 
 none_large : (n p kept : ℕ) → 0 < p → kept * p ≤ n → 10 ^ 26 ≤ kept → IsLarge n p
