@@ -31,6 +31,7 @@ fn bool_name(b: bool) -> &'static str
     if b { "true" } else { "false" }
 }
 
+// The text of an integer.
 fn whole_str(alloc: Global, n: Whole) -> Result<Str, NoMemory>
     ensures { IfOk result (λ s. s ≡ signed_decimal n) }
 {
@@ -38,6 +39,7 @@ fn whole_str(alloc: Global, n: Whole) -> Result<Str, NoMemory>
     Str::of(alloc, buffer.format(n.get()))
 }
 
+// The text of a decimal.
 fn decimal_str(alloc: Global, m: Units) -> Result<Str, NoMemory>
     ensures { IfOk result (λ s. s ≡ decimal_text m) }
 {
@@ -72,6 +74,7 @@ fn push_signed(text: &mut String, m: i128) -> Result<(), AllocError>
     push_units(text, m.unsigned_abs())
 }
 
+// A number of units of 10^-6 without a sign.
 fn push_units(text: &mut String, units: u128) -> Result<(), AllocError>
     requires { units < 10 ^ 26 }
     ensures ok { OnOk result (string_bytes text.new ≡ string_bytes text.old ++ units_text units) }

@@ -10,7 +10,8 @@ use std::collections::HashMap;
 use std::marker::Model;
 use std::sync::Arc;
 
-/// A value of the query language. Contracts speak of the plain value that it stands for, `datum`.
+/// A value of the query language. Contracts speak of the plain value that it stands for, its
+/// `datum`. A copy takes constant time.
 #[cycle(item)]
 #[derive(Debug, Drop)]
 pub enum Item {
@@ -99,6 +100,7 @@ impl Items {
     ghost use Rattle.item_tree.specs.Datum.{Sound, array_of_list};
     ghost use Rattle.item_tree.specs.Item.{datums};
 
+    /// The items in order.
     pub fn as_slice(&self) -> &[Item]
         ensures value { datums result.now ≡ self.now }
         ensures sound { Sound (array_of_list self.now) }
@@ -124,6 +126,7 @@ impl Pairs {
     ghost use Rattle.item_tree.specs.Item.{datum, pair_datums};
     ghost use Rattle.item_tree.specs.Lookup.{lookup, place_of};
 
+    /// The pairs in order of insertion.
     pub fn as_slice(&self) -> &[(Str, Item)]
         ensures value { pair_datums result.now ≡ self.now }
         ensures sound { Sound (object_of_pairs self.now) }
@@ -131,7 +134,7 @@ impl Pairs {
         self.pairs.as_slice()
     }
 
-    /// The value at this key, in a time that does not grow with the number of pairs.
+    /// The value at this key. Where there are many pairs, the time does not grow with their number.
     pub fn get(&self, key: &Str) -> Option<&Item>
         ensures { option_map (λ x. datum x.now) result ≡ lookup key.now self.now }
     {
@@ -141,6 +144,7 @@ impl Pairs {
         }
     }
 
+    // The position of the pair with this key.
     fn place(&self, key: &Str) -> Option<usize>
         ensures { result ≡ place_of key.now self.now }
     {

@@ -25,6 +25,7 @@ impl Model for Whole {
 }
 
 impl Whole {
+    /// The integer n, which is within the bounds.
     pub fn new(n: i128) -> Whole
         requires { IsWhole n }
         ensures { result ≡ n }
@@ -32,6 +33,7 @@ impl Whole {
         Whole { n }
     }
 
+    /// The whole number.
     pub fn get(&self) -> i128
         ensures value { result ≡ self.now }
         ensures within { IsWhole self.now }
@@ -68,6 +70,7 @@ impl Model for Units {
 }
 
 impl Units {
+    /// The decimal of so many units, which are within the bounds.
     pub fn new(m: i128) -> Units
         requires { IsUnits m }
         ensures { result ≡ m }
@@ -75,6 +78,7 @@ impl Units {
         Units { m }
     }
 
+    /// The number of units of 10^-6.
     pub fn get(&self) -> i128
         ensures value { result ≡ self.now }
         ensures within { IsUnits self.now }

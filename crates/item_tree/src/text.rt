@@ -49,6 +49,7 @@ impl Str {
         }
     }
 
+    /// The characters in UTF-8.
     pub fn as_str(&self) -> &str
         ensures value { chars result.now ≡ self.now }
         ensures bytes { result.now ≡ encode_utf8_all self.now }

@@ -17,6 +17,7 @@ pub(super) fn place_among(pairs: &[(Str, Item)], key: &Str) -> Option<usize>
     None
 }
 
+// The value of the pair at this position.
 pub(super) fn value_at(pairs: &[(Str, Item)], at: usize) -> &Item
     requires { at < length pairs.now }
     ensures { option_map (λ p. p.1) (slice_get pairs.now at) ≡ Some result.now }

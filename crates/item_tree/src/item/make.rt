@@ -67,6 +67,7 @@ pub fn object_of_distinct(alloc: Global, pairs: Vec<(Str, Item)>) -> Result<Item
 // So many keys are sooner compared with each other than put into a table.
 const FEW: usize = 32;
 
+// The object of pairs whose keys differ, with the positions of the keys where they are many.
 fn object_with(
     alloc: Global,
     pairs: Vec<(Str, Item)>,
@@ -134,18 +135,6 @@ fn first_repeat(pairs: &[(Str, Item)]) -> Option<usize>
     None
 }
 
-fn shared_places(
-    alloc: Global,
-    pairs: &[(Str, Item)],
-) -> Result<Arc<HashMap<Str, usize>, Global>, MakeFault>
-    ensures { MatchResult result (λ t. KeysDiffer (pair_datums pairs.now) × ArePlaces (arc_value t) (pair_datums pairs.now)) (RepeatRefused (pair_datums pairs.now)) }
-{
-    match Arc::new(alloc, places_of(alloc, pairs)?) {
-        Ok(places) => Ok(places),
-        Err(_) => Err(MakeFault::NoMemory),
-    }
-}
-
 // The position of each key, or the first that an earlier pair has.
 fn places_of(alloc: Global, pairs: &[(Str, Item)]) -> Result<HashMap<Str, usize>, MakeFault>
     ensures { MatchResult result (λ m. KeysDiffer (pair_datums pairs.now) × ArePlaces m (pair_datums pairs.now)) (RepeatRefused (pair_datums pairs.now)) }
@@ -163,4 +152,17 @@ fn places_of(alloc: Global, pairs: &[(Str, Item)]) -> Result<HashMap<Str, usize>
         }
     }
     Ok(places)
+}
+
+// The same, to be shared by the copies of an object.
+fn shared_places(
+    alloc: Global,
+    pairs: &[(Str, Item)],
+) -> Result<Arc<HashMap<Str, usize>, Global>, MakeFault>
+    ensures { MatchResult result (λ t. KeysDiffer (pair_datums pairs.now) × ArePlaces (arc_value t) (pair_datums pairs.now)) (RepeatRefused (pair_datums pairs.now)) }
+{
+    match Arc::new(alloc, places_of(alloc, pairs)?) {
+        Ok(places) => Ok(places),
+        Err(_) => Err(MakeFault::NoMemory),
+    }
 }
