@@ -1,6 +1,6 @@
-use Rattle.std.proofs.Common.{◌≡◌, ◌+◌, ◌∷◌, [], ◌++◌, drop, sym, subst, arith, rules}
+use Rattle.std.proofs.Common.{◌∷◌, [], ◌++◌, arith, rules}
 use Rattle.std.proofs.lemmas.Result.{on_err_weaker}
-use Rattle.item_tree.specs.Datum.{values, members, object_of_pairs}
+use Rattle.item_tree.specs.Datum.{values, members}
 use Rattle.item_tree.specs.Item.{datum, datums, pair_datums}
 use Rattle.item_tree.specs.ItemText.{item_text, more_values_text, more_members_text, string_text}
 use Rattle.item_tree.proofs.EqualLists.{depth_at, pair_depth_at}

@@ -1,6 +1,5 @@
 use Rattle.std.proofs.Common.{arith, append_assoc}
 use Rattle.std.proofs.lemmas.Grind.{common_steps}
-use Rattle.std.proofs.lemmas.Result.{on_ok_weaker}
 use Rattle.item_printer.proofs.StringTexts.{characters_text_of}
 use Rattle.item_printer.proofs.string.print_string.Goals as goal
 
