@@ -4,7 +4,7 @@ ghost use Rattle.item_tree.specs.Codes.{code_text};
 /// What went wrong, by the codes of XQuery, of JSONiq and of this engine.
 ///
 /// The second letter group tells when it is found: a code with `ST` refuses a query before it runs,
-/// and any other is raised by a run. `PJST0099` and `PJDY0099` stand for what is not built yet.
+/// and any other is raised by a run. `PJST0099` stands for a query that is not built yet.
 #[derive(Clone, Copy, Debug, PartialEq, Eq)]
 pub enum Code {
     /// The text is not of the grammar.
@@ -77,8 +77,6 @@ pub enum Code {
     PJDY0003,
     /// A number of a line is out of range.
     PJDY0004,
-    /// A line that is not built yet.
-    PJDY0099,
 }
 
 impl Code {
@@ -122,7 +120,6 @@ impl Code {
             Code::PJDY0002 => "PJDY0002",
             Code::PJDY0003 => "PJDY0003",
             Code::PJDY0004 => "PJDY0004",
-            Code::PJDY0099 => "PJDY0099",
         }
     }
 }
