@@ -1,1 +1,1 @@
-json-lines("numbers.jsonl")
+json-lines("orders.jsonl")

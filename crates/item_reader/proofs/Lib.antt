@@ -1,3 +1,8 @@
-mod ReadingRows
-pub mod Spaces
-pub mod Digits
+pub mod Parts
+pub mod TokenSteps
+pub mod NumberSteps
+pub mod StringSteps
+pub mod Frames
+pub mod MemberSteps
+pub mod Turning
+pub mod ReadingSteps

@@ -1,6 +1,7 @@
 -- The lines of an input, in the manner of JSON Lines.
-use Rattle.std.specs.Prelude.{ℕ, ◌+◌, ◌==◌, nat_eq, Bool, not, ◌||◌, List, [], ◌∷◌, length, drop, filter, if◌then◌else◌}
-use Rattle.std.specs.List.{list_all, slice_split, starts_with}
+use Rattle.std.specs.Prelude.{ℕ, ◌+◌, ◌==◌, nat_eq, not, List, [], ◌∷◌, length, drop, filter, if◌then◌else◌}
+use Rattle.std.specs.List.{slice_split, starts_with}
+use Rattle.json_text.specs.Line.{is_blank}
 
 -- a line, and the offset of its first byte in the input
 pub record Line : Type 0 where
@@ -27,13 +28,6 @@ without_mark bytes = if starts_with nat_eq bytes mark then drop 3 bytes else byt
 abbrev pub unmarked : List Line → List Line
 unmarked [] = []
 unmarked (l ∷ ls) = record l { bytes = without_mark l.bytes } ∷ ls
-
--- what may stand round the text of a line: space, tab and CR
-abbrev pub is_line_space : ℕ → Bool
-is_line_space b = b == 32 || b == 9 || b == 13
-
-abbrev pub is_blank : List ℕ → Bool
-is_blank line = list_all is_line_space line
 
 -- the lines of an input that are not blank
 abbrev pub lines : List ℕ → List Line

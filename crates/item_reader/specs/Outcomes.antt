@@ -2,8 +2,8 @@
 use Rattle.std.specs.Prelude.{◌≡◌, Option, None, Some, IfSome}
 use Rattle.item_tree.specs.declared.item.Item.{Item}
 use Rattle.item_tree.specs.Item.{datum}
+use Rattle.json_text.specs.Line.{Reading, blank, item, fault}
 use Rattle.item_reader.specs.declared.fault.LineFault.{LineFault}
-use Rattle.item_reader.specs.Reading.{Reading, blank, item, fault}
 use Rattle.item_reader.specs.Faults.{code_of}
 
 -- the reading is this item, or blank where there is none

@@ -6,10 +6,13 @@ use item_tree::Code;
 /// Why a line gave no item.
 #[derive(Clone, Copy, Debug, PartialEq, Eq)]
 pub enum LineFault {
-    /// A text that is no whole number, which is not built yet.
-    NotBuilt,
-    /// An integer n with |n| >= 10^20.
+    /// The line is no text of JSON.
+    NotJson,
+    /// An integer n with |n| >= 10^20, or a decimal whose nearest number of units of 10^-6 is m
+    /// with |m| >= 10^26.
     NumberOut,
+    /// A bracket opens inside 128 open ones.
+    TooDeep,
     NoMemory,
 }
 
@@ -19,8 +22,9 @@ impl LineFault {
         ensures { result ≡ code_of self.now }
     {
         match self {
-            LineFault::NotBuilt => Some(Code::PJDY0099),
+            LineFault::NotJson => Some(Code::JNDY0021),
             LineFault::NumberOut => Some(Code::PJDY0004),
+            LineFault::TooDeep => Some(Code::PJDY0002),
             LineFault::NoMemory => None,
         }
     }

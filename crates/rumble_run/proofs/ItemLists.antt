@@ -8,8 +8,10 @@ use Rattle.std.proofs.lemmas.List.{append-nil, map-append}
 use Rattle.std.proofs.lemmas.Slice.Eq.{starts_is}
 use Rattle.item_tree.specs.Datum.{Datum}
 use Rattle.item_tree.specs.declared.code.Code.{Code}
-use Rattle.item_reader.specs.Lines.{Line, mark, cut, placed, unmarked, without_mark, is_blank}
-use Rattle.item_reader.specs.Reading.{blank, item, fault, reading, read_before, items_of, items_of_lines}
+use Rattle.item_reader.specs.Lines.{Line, mark, cut, placed, unmarked, without_mark}
+use Rattle.item_reader.specs.Reading.{read_before, items_of, items_of_lines}
+use Rattle.json_text.specs.Line.{Reading, blank, item, fault, is_blank}
+use Rattle.json_text.specs.Build.{reading}
 use Rattle.item_tree.specs.declared.item.Item.{Item}
 use Rattle.item_tree.specs.Item.{datum, datums}
 use Rattle.rumble_run.specs.Cuts.{lines_of}

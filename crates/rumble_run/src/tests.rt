@@ -2,6 +2,7 @@ use crate::{Status, rumble};
 use item_tree::Str;
 use outside::{Fails, FreeGate, Inputs, MemInputs, MemSink, names_differ};
 use std::alloc::Global;
+use std::process::Abort;
 use std::sync::Wait;
 use std::test::Fail;
 use std::thread::Threads;
@@ -63,50 +64,127 @@ fn run<R: Threads + Wait + Sync, I: Inputs + Drop>(
     Ok(Outcome { status, out, err })
 }
 
-// What each line of an input comes to, with the query that is built.
+// The output for an input, with the query that is built.
+fn lines_of<R: Threads + Wait + Sync + Abort>(
+    rt: &R,
+    alloc: Global,
+    input: &[u8],
+) -> Result<Outcome, Fail> {
+    let files = two_files(alloc, ONE_QUERY, input)?;
+    assert!(rt; names_differ(&files));
+    let inputs = MemInputs::steady(alloc, files)?;
+    run(rt, alloc, &["run", "q"], inputs, (1000, 100))
+}
+
+// Inputs, and what is printed.
 #[test]
-fn runs_one_query(rt: HostRuntime) -> Result<(), Fail> {
+fn prints_the_items(rt: HostRuntime) -> Result<(), Fail> {
     let alloc = rt.alloc();
-    let cases: [(&[u8], Status, &str, &str); 9] = [
-        (b"12\n-0\n -7 ", Status::Done, "12\n0\n-7\n", ""),
-        (b"", Status::Done, "", ""),
-        (b"7", Status::Done, "7\n", ""),
-        (b"\xef\xbb\xbf1\r\n \n2", Status::Done, "1\n2\n", ""),
+    let cases: [(&[u8], &str); 16] = [
+        (b"12\n-0\n -7 ", "12\n0\n-7\n"),
+        (b"", ""),
+        (b"7", "7\n"),
+        (b"\xef\xbb\xbf1\r\n \n2", "1\n2\n"),
         (
             b"99999999999999999999\n-99999999999999999999\n",
-            Status::Done,
             "99999999999999999999\n-99999999999999999999\n",
-            "",
         ),
-        (b"1\n01", Status::Raised, "", "raised PJDY0099 at 1:1\n"),
+        (b"1e-6\n1.50\n1E2\n", "0.000001\n1.5\n100\n"),
+        (b"1e0\n-0.0\n1e-400\n-12.3456785e0", "1\n0\n0\n-12.345678\n"),
         (
-            b"99999999999999999999\n100000000000000000000",
-            Status::Raised,
-            "",
-            "raised PJDY0004 at 1:1\n",
+            b"1\n\"xxxxxxxxxxxxxxxxxxxxxxxxxxxxxxxxxxxxxx\"\n3",
+            "1\n\"xxxxxxxxxxxxxxxxxxxxxxxxxxxxxxxxxxxxxx\"\n3\n",
         ),
         (
-            b"1\n100000000000000000000\n01\n",
-            Status::Raised,
-            "",
-            "raised PJDY0004 at 1:1\n",
+            b"{\"k\":1,\"m\":2,\"k\":3}\n\"\\ud800\"",
+            "{\"k\":3,\"m\":2}\n\"\u{fffd}\"\n",
+        ),
+        (b"null\ntrue\nfalse\n", "null\ntrue\nfalse\n"),
+        (
+            b" { \"a\" : [ 1 , 2.50 ] , \"b\" : { } }\t\n[ ]\r\n",
+            "{\"a\":[1,2.5],\"b\":{}}\n[]\n",
         ),
         (
-            b"1\n\xef\xbb\xbf2\n",
-            Status::Raised,
-            "",
-            "raised PJDY0099 at 1:1\n",
+            b"\"\\u0041\\/\\\\\\\"\\b\\f\\n\\r\\t\\u001f\"",
+            "\"A/\\\\\\\"\\b\\f\\n\\r\\t\\u001f\"\n",
         ),
+        (b"\"\\ud83d\\ude00\\u00e9\"", "\"\u{1f600}\u{e9}\"\n"),
+        (b"\"\\ude00\\ud83d\"", "\"\u{fffd}\u{fffd}\"\n"),
+        (
+            b"99999999999999999999.999999",
+            "99999999999999999999.999999\n",
+        ),
+        (b"[\"M\xc3\xbcsli\"]", "[\"M\u{fc}sli\"]\n"),
     ];
-    for (input, status, out, err) in cases {
-        let files = two_files(alloc, ONE_QUERY, input)?;
-        assert!(rt; names_differ(&files));
-        let inputs = MemInputs::steady(alloc, files)?;
-        let left = run(&rt, alloc, &["run", "q"], inputs, (100, 100))?;
-        assert_eq!(rt; left.status, status, "at {input:?}");
+    for (input, out) in cases {
+        let left = lines_of(&rt, alloc, input)?;
         assert_eq!(rt; left.out.bytes(), out.as_bytes(), "at {input:?}");
-        assert_eq!(rt; left.err.bytes(), err.as_bytes(), "at {input:?}");
+        assert_eq!(rt; left.status, Status::Done, "at {input:?}");
+        assert!(rt; left.err.bytes().is_empty(), "at {input:?}");
+        // What is printed reads back.
+        let again = lines_of(&rt, alloc, out.as_bytes())?;
+        assert_eq!(rt; again.out.bytes(), out.as_bytes(), "again at {input:?}");
     }
+    Ok(())
+}
+
+// Inputs with a faulty line, and the code of the first.
+#[test]
+fn raises_the_first_fault(rt: HostRuntime) -> Result<(), Fail> {
+    let alloc = rt.alloc();
+    let cases: [(&[u8], &str); 14] = [
+        (b"1\n01", "JNDY0021"),
+        (b"1\n\xef\xbb\xbf2\n", "JNDY0021"),
+        (b"99999999999999999999\n100000000000000000000", "PJDY0004"),
+        (b"1\n100000000000000000000\n01\n", "PJDY0004"),
+        (b"1\n01\n100000000000000000000\n", "JNDY0021"),
+        (b"1e-6\n1e20", "PJDY0004"),
+        (b"[1e20,", "JNDY0021"),
+        (b"[1e20]", "PJDY0004"),
+        (b"{\"a\":1", "JNDY0021"),
+        (b"1 2", "JNDY0021"),
+        (b"\"\xff\"", "JNDY0021"),
+        (b"\"\x01\"", "JNDY0021"),
+        (b"nul", "JNDY0021"),
+        (b"+1", "JNDY0021"),
+    ];
+    for (input, code) in cases {
+        let left = lines_of(&rt, alloc, input)?;
+        let text = format!(in alloc; "raised {code} at 1:1\n")?;
+        assert_eq!(rt; left.status, Status::Raised, "at {input:?}");
+        assert!(rt; left.out.bytes().is_empty(), "at {input:?}");
+        assert_eq!(rt; left.err.bytes(), text.as_bytes(), "at {input:?}");
+    }
+    Ok(())
+}
+
+// So many brackets that open, and as many that close.
+fn brackets(alloc: Global, count: usize) -> Result<Vec<u8>, Fail> {
+    let mut text = Vec::new(alloc);
+    for _ in 0..count {
+        text.push(b'[')?;
+    }
+    for _ in 0..count {
+        text.push(b']')?;
+    }
+    Ok(text)
+}
+
+// The depth of 128 is read and printed, and one more is not.
+#[test]
+fn keeps_the_depth(rt: HostRuntime) -> Result<(), Fail> {
+    let alloc = rt.alloc();
+    let deepest = brackets(alloc, 128)?;
+    let left = lines_of(&rt, alloc, &deepest)?;
+    let mut printed = deepest.clone()?;
+    printed.push(b'\n')?;
+    assert_eq!(rt; left.out.bytes(), printed.as_slice());
+    let left = lines_of(&rt, alloc, &brackets(alloc, 129)?)?;
+    assert_eq!(rt; left.status, Status::Raised);
+    assert_eq!(rt; left.err.bytes(), b"raised PJDY0002 at 1:1\n".as_slice());
+    // A million brackets that open take no deeper stack.
+    let left = lines_of(&rt, alloc, &vec![in alloc; b'['; 1_000_000]?)?;
+    assert_eq!(rt; left.err.bytes(), b"raised JNDY0021 at 1:1\n".as_slice());
     Ok(())
 }
 

@@ -1,0 +1,26 @@
+-- What a line reads as, by what is built of it.
+use Rattle.std.specs.Prelude.{◌≡◌, ℕ, Bool, true, false, List, Option, Some, None, option_map, refl}
+use Rattle.std.proofs.Common.{sym, ◌∙◌, ap}
+use Rattle.json_text.specs.Line.{Reading, blank, is_blank}
+use Rattle.json_text.specs.Build as b
+use Rattle.json_text.proofs.ReadingLemmas.{never_building}
+use Rattle.item_reader.specs.declared.build.Build.{Build}
+use Rattle.item_reader.specs.declared.build.Progress.{Progress}
+use Rattle.item_reader.specs.declared.build.Progress.TheVariants.{Open}
+use Rattle.item_reader.specs.View.{build_of, progress_of, frames_of}
+
+pub reads_blank : (line : List ℕ) → is_blank line ≡ true → b.reading line ≡ blank
+unfolding b.reading
+reads_blank line e = rw e refl
+
+pub reads_made : (line : List ℕ) (o : Option b.Build) → is_blank line ≡ false → b.made line ≡ o → b.reading line ≡ b.reading_of o
+unfolding b.reading
+reads_made line o e h = rw (e, h) refl
+
+pub reads_build : (line : List ℕ) (o : Option Build) (x : Build) (p : Progress) → is_blank line ≡ false → b.made line ≡ option_map build_of o → o ≡ Some x → p ≡ x.progress → b.reading line ≡ b.reading_of (Some (progress_of p (frames_of x.frames.items)))
+reads_build line o x p e h s q =
+    reads_made line _ e h ∙ ap (λ y. b.reading_of (option_map build_of y)) s ∙ ap (λ y. b.reading_of (Some (progress_of y (frames_of x.frames.items)))) (sym q)
+
+pub never_open : (line : List ℕ) (o : Option Build) (x : Build) → b.made line ≡ option_map build_of o → o ≡ Some x → Open ≡ x.progress → ⊥
+never_open line o x h s q =
+    never_building line (frames_of x.frames.items) (h ∙ ap (option_map build_of) s ∙ ap (λ y. Some (progress_of y (frames_of x.frames.items))) (sym q))

@@ -1,0 +1,28 @@
+use Rattle.std.proofs.Common.{sym, ◌∙◌, ap}
+use Rattle.json_text.specs.Build as b
+use Rattle.std.specs.Prelude.{option_map}
+use Rattle.item_reader.specs.View.{build_of}
+use Rattle.item_reader.specs.declared.build.Progress.TheVariants.{Troubled}
+use Rattle.item_reader.specs.declared.build.Trouble.TheVariants.{NumberOut, TooDeep}
+use Rattle.item_reader.proofs.ReadingSteps.{reads_blank, reads_made, reads_build, never_open}
+use Rattle.item_reader.proofs.read.read_item.Goals as goal
+
+pub returns-then-is_blank-clause-ok : goal.returns-then-is_blank-clause-ok
+returns-then-is_blank-clause-ok c = reads_blank c.args.line.now (sym c.if-is_blank.ensures)
+
+pub unreachable-requires : goal.unreachable-requires
+unreachable-requires c = never_open c.args.line.now c.in-Ok-Some.field-0 c.in-Ok-Some.build c.in-Ok-Some.ensures c.in-Ok-Some.field-0-is c.in-Open.ensures
+
+pub returns-in-Ok-None-clause-err : goal.returns-in-Ok-None-clause-err
+returns-in-Ok-None-clause-err c = reads_made c.args.line.now _ (sym c.if-is_blank.ensures) (c.in-Ok-None.ensures ∙ ap (option_map build_of) c.in-Ok-None.field-0-is)
+
+pub returns-in-Done-clause-ok : goal.returns-in-Done-clause-ok
+returns-in-Done-clause-ok c = reads_build c.args.line.now c.in-Ok-Some.field-0 c.in-Ok-Some.build _ (sym c.if-is_blank.ensures) c.in-Ok-Some.ensures c.in-Ok-Some.field-0-is c.in-Done.ensures
+
+pub returns-in-Troubled-NumberOut-clause-err : goal.returns-in-Troubled-NumberOut-clause-err
+returns-in-Troubled-NumberOut-clause-err c =
+    reads_build c.args.line.now c.in-Ok-Some.field-0 c.in-Ok-Some.build (Troubled NumberOut) (sym c.if-is_blank.ensures) c.in-Ok-Some.ensures c.in-Ok-Some.field-0-is (ap Troubled (sym c.in-Troubled-NumberOut.field-0-is) ∙ c.in-Troubled-NumberOut.ensures)
+
+pub returns-in-Troubled-TooDeep-clause-err : goal.returns-in-Troubled-TooDeep-clause-err
+returns-in-Troubled-TooDeep-clause-err c =
+    reads_build c.args.line.now c.in-Ok-Some.field-0 c.in-Ok-Some.build (Troubled TooDeep) (sym c.if-is_blank.ensures) c.in-Ok-Some.ensures c.in-Ok-Some.field-0-is (ap Troubled (sym c.in-Troubled-TooDeep.field-0-is) ∙ c.in-Troubled-TooDeep.ensures)

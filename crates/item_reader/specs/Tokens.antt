@@ -1,0 +1,45 @@
+-- What the code's tokens stand for.
+use Rattle.std.specs.Prelude.{◌≡◌, ℕ, Bool, true, false, List, [], ◌∷◌, Option, Some, None, Ok, Err}
+use Rattle.item_tree.specs.Datum.{Datum, null, boolean}
+use Rattle.item_tree.specs.Item.{datum}
+use Rattle.json_text.specs.Meaning.{number_out}
+use Rattle.json_text.specs.Machine as m
+use Rattle.json_text.specs.Build.{number_said, number_outcome}
+use Rattle.item_reader.specs.declared.token.Token.{Token}
+use Rattle.item_reader.specs.declared.token.Token.TheVariants.{OpenArray, CloseArray, OpenObject, CloseObject, Comma, Colon, Atom, NumberOut, Text, End, Bad}
+
+-- a token that is this value, or a number that is out of bounds
+abbrev pub IsAtom : Datum → m.Token → Type 0
+IsAtom x m.null_word = x ≡ null
+IsAtom x (m.boolean_word b) = x ≡ boolean b
+IsAtom x (m.numeral n) = number_outcome (number_said n) ≡ Ok x
+IsAtom x _ = ⊥
+
+abbrev pub IsNumberOut : m.Token → Type 0
+IsNumberOut (m.numeral n) = number_outcome (number_said n) ≡ Err number_out
+IsNumberOut _ = ⊥
+
+abbrev pub StandsFor : Token → m.Token → Type 0
+StandsFor OpenArray t = t ≡ m.open_array
+StandsFor CloseArray t = t ≡ m.close_array
+StandsFor OpenObject t = t ≡ m.open_object
+StandsFor CloseObject t = t ≡ m.close_object
+StandsFor Comma t = t ≡ m.comma
+StandsFor Colon t = t ≡ m.colon
+StandsFor (Atom x) t = IsAtom (datum x) t
+StandsFor NumberOut t = IsNumberOut t
+StandsFor (Text s) t = t ≡ m.characters s
+StandsFor End t = t ≡ m.end
+StandsFor Bad t = t ≡ m.bad
+
+-- a token and the bytes behind it
+abbrev pub IsPart : Token → List ℕ → m.Token × List ℕ → Type 0
+IsPart t r p = StandsFor t p.0 × (r ≡ p.1)
+
+abbrev pub begins : (ℕ → Bool) → List ℕ → Bool
+begins p [] = false
+begins p (b ∷ l) = p b
+
+abbrev pub uncons : List ℕ → Option (ℕ × List ℕ)
+uncons [] = None
+uncons (b ∷ l) = Some (b, l)

@@ -1,0 +1,53 @@
+-- One turn of the machine, in the code.
+use Rattle.std.specs.Prelude.{◌≡◌, ℕ, Bool, true, false, List, [], ◌∷◌, Option, Some, None}
+use Rattle.json_text.specs.Machine as m
+use Rattle.json_text.specs.Build as b
+use Rattle.item_tree.specs.Datum.{Datum}
+use Rattle.item_reader.specs.View.{build_of, mode_of, kinds_of, on_frames}
+use Rattle.json_text.specs.Fits.{BuildFits}
+use Rattle.item_reader.specs.declared.turn.State.{State}
+use Rattle.item_reader.specs.declared.turn.Turn.{Turn}
+use Rattle.item_reader.specs.declared.turn.Turn.TheVariants.{More, End, NotJson}
+
+-- what comes of the rest of the text, if k gives its events
+abbrev pub goes : State → m.Next → Option b.Build
+goes s k = b.outcome (build_of s.build) (k (mode_of s.mode) (kinds_of s.kinds.items))
+
+abbrev pub turn_gives : Turn → State → m.Next → Option b.Build
+turn_gives More s k = goes s k
+turn_gives End s k = Some (build_of s.build)
+turn_gives NotJson s k = None
+
+-- more comes only behind a token that takes a byte
+abbrev pub Takes : m.Token → Turn → Type 0
+Takes m.end More = ⊥
+Takes m.bad More = ⊥
+Takes t r = Unit {0}
+
+abbrev pub TurnFits : Turn → State → Type 0
+TurnFits More s = BuildFits (build_of s.build)
+TurnFits End s = Unit {0}
+TurnFits NotJson s = Unit {0}
+
+-- in this mode the token makes this turn of the one state to the other
+pub record IsTurn (mode : m.Mode) (old : State) (t : m.Token) (r : Turn) (new : State) : Type 0 where
+  pub gives : (k : m.Next) → b.outcome (build_of old.build) (m.step mode (kinds_of old.kinds.items) t k) ≡ turn_gives r new k
+  pub fits : BuildFits (build_of old.build) → TurnFits r new
+  pub takes : Takes t r
+
+-- the event brings the one state to the other, with this mode and these kinds
+pub record Steps (old : State) (e : m.Event) (m2 : m.Mode) (ks2 : m.Kinds) (new : State) : Type 0 where
+  pub build : build_of new.build ≡ b.perform (build_of old.build) e
+  pub kinds : kinds_of new.kinds.items ≡ ks2
+  pub mode : mode_of new.mode ≡ m2
+
+-- the value goes to what is built
+pub record IsAdded (old : State) (y : Datum) (new : State) : Type 0 where
+  pub build : build_of new.build ≡ on_frames (b.add y) (build_of old.build)
+  pub kinds : kinds_of new.kinds.items ≡ kinds_of old.kinds.items
+  pub mode : mode_of new.mode ≡ m.after
+
+-- the token that closes an array, and the one that closes an object
+abbrev pub closing : Bool → m.Token
+closing true = m.close_array
+closing false = m.close_object

@@ -1,0 +1,135 @@
+//! The item that is being built.
+
+ghost use Rattle.std.specs.Prelude.{◌≡◌, true, OnOk};
+ghost use Rattle.item_tree.specs.Item.{datum};
+ghost use Rattle.json_text.specs.Build.{start, push_frame as push_frame_of, add as add_of, close as close_of, set_key as set_key_of, troubled};
+ghost use Rattle.item_reader.specs.View.{is_open as is_open_of, on_frames, frame_of, frames_of, build_of, trouble_of};
+ghost use Rattle.json_text.specs.Fits.{BuildFits, FramesFit};
+
+use crate::frame::{Frame, add_in_place, push_frame, set_key_in_place};
+use item_tree::{Item, NoMemory, Str};
+use std::alloc::Global;
+
+#[derive(Clone, Copy, Debug)]
+pub enum Trouble {
+    NumberOut,
+    TooDeep,
+}
+
+#[derive(Drop)]
+pub enum Progress {
+    Open,
+    Done(Item),
+    Troubled(Trouble),
+}
+
+/// The containers that are open, the innermost last, and whether the item is done or the text has a
+/// trouble, which stays.
+#[derive(Drop)]
+pub struct Build {
+    frames: Vec<Frame>,
+    progress: Progress,
+}
+
+impl Build {
+    pub fn new(alloc: Global) -> Build
+        ensures { build_of result ≡ start }
+    {
+        Build {
+            frames: Vec::new(alloc),
+            progress: Progress::Open,
+        }
+    }
+
+    pub fn into_progress(self) -> Progress
+        ensures { result ≡ self.progress }
+    {
+        self.progress
+    }
+
+    fn is_open(&self) -> bool
+        ensures { result ≡ is_open_of self.now.progress }
+    {
+        match self.progress {
+            Progress::Open => true,
+            Progress::Done(_) => false,
+            Progress::Troubled(_) => false,
+        }
+    }
+
+    pub fn open(&mut self, frame: Frame) -> Result<(), NoMemory>
+        ensures { OnOk result (build_of self.new ≡ on_frames (push_frame_of (frame_of frame)) (build_of self.old)) }
+    {
+        if !self.is_open() {
+            return Ok(());
+        }
+        if self.frames.len() < 128 {
+            push_frame(&mut self.frames, frame)?;
+        } else {
+            self.progress = Progress::Troubled(Trouble::TooDeep);
+        }
+        Ok(())
+    }
+
+    // A value that is complete goes into the innermost container, or it is the whole.
+    fn add_open(&mut self, alloc: Global, item: Item) -> Result<(), NoMemory>
+        requires open { is_open_of self.old.progress ≡ true }
+        requires fits { FramesFit (frames_of self.old.frames.items) }
+        ensures { OnOk result (build_of self.new ≡ add_of (datum item) (frames_of self.old.frames.items)) }
+    {
+        if self.frames.is_empty() {
+            self.progress = Progress::Done(item);
+        } else {
+            add_in_place(alloc, &mut self.frames, item)?;
+        }
+        Ok(())
+    }
+
+    pub fn add(&mut self, alloc: Global, item: Item) -> Result<(), NoMemory>
+        requires { BuildFits (build_of self.old) }
+        ensures { OnOk result (build_of self.new ≡ on_frames (add_of (datum item)) (build_of self.old)) }
+    {
+        if !self.is_open() {
+            return Ok(());
+        }
+        self.add_open(alloc, item)?;
+        Ok(())
+    }
+
+    pub fn close(&mut self, alloc: Global) -> Result<(), NoMemory>
+        requires { BuildFits (build_of self.old) }
+        ensures { OnOk result (build_of self.new ≡ on_frames close_of (build_of self.old)) }
+    {
+        if !self.is_open() {
+            return Ok(());
+        }
+        match self.frames.pop() {
+            None => Ok(()),
+            Some(frame) => {
+                let item = frame.into_item(alloc)?;
+                self.add_open(alloc, item)?;
+                Ok(())
+            }
+        }
+    }
+
+    pub fn set_key(&mut self, text: Str)
+        ensures { build_of self.new ≡ on_frames (set_key_of text) (build_of self.old) }
+    {
+        if !self.is_open() {
+            return;
+        }
+        if self.frames.is_empty() {
+            return;
+        }
+        set_key_in_place(&mut self.frames, text);
+    }
+
+    pub fn fail(&mut self, trouble: Trouble)
+        ensures { build_of self.new ≡ on_frames (λ fs. troubled (trouble_of trouble)) (build_of self.old) }
+    {
+        if self.is_open() {
+            self.progress = Progress::Troubled(trouble);
+        }
+    }
+}

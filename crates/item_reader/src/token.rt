@@ -1,0 +1,142 @@
+//! Tokens.
+
+ghost use Rattle.std.specs.Prelude.{◌≡◌, ◌∷◌, [], ℕ, true, false, IfOk, option_map};
+ghost use Rattle.json_text.specs.Json.{is_space};
+ghost use Rattle.json_text.specs.Machine.{token_at, token_from as token_from_of, word_at};
+ghost use Rattle.json_text.specs.Machine as m;
+ghost use Rattle.item_reader.specs.Tokens.{StandsFor, IsPart, begins, uncons as uncons_of};
+
+use crate::number::number_token;
+use crate::string::string_token;
+use item_tree::{Item, NoMemory, Str};
+use std::alloc::Global;
+
+#[derive(Drop)]
+pub enum Token {
+    OpenArray,
+    CloseArray,
+    OpenObject,
+    CloseObject,
+    Comma,
+    Colon,
+    /// Null, a boolean, or a number within its bounds.
+    Atom(Item),
+    NumberOut,
+    Text(Str),
+    End,
+    Bad,
+}
+
+fn is_space(b: u8) -> bool
+    ensures { result ≡ is_space b }
+{
+    b == b' ' || b == b'\t' || b == b'\n' || b == b'\r'
+}
+
+pub(crate) fn uncons(line: &[u8]) -> Option<(u8, &[u8])>
+    ensures { option_map (λ p. (p.0, p.1.now)) result ≡ uncons_of line.now }
+{
+    match line.split_first() {
+        None => None,
+        Some((b, rest)) => Some((*b, rest)),
+    }
+}
+
+fn skip_spaces(line: &[u8]) -> &[u8]
+    ensures skipped { token_at result.now ≡ token_at line.now }
+    ensures stops { begins is_space result.now ≡ false }
+{
+    let mut left = line;
+    while let Some((b, rest)) = uncons(left) {
+        if !is_space(b) {
+            break;
+        }
+        left = rest;
+    }
+    left
+}
+
+fn null_token(line: &[u8]) -> (Token, &[u8])
+    ensures { IsPart result.0 result.1.now (word_at (117 ∷ 108 ∷ 108 ∷ []) m.null_word line.now) }
+{
+    if line.starts_with(b"ull") {
+        (Token::Atom(Item::Null), &line[3..])
+    } else {
+        (Token::Bad, &[])
+    }
+}
+
+fn true_token(line: &[u8]) -> (Token, &[u8])
+    ensures { IsPart result.0 result.1.now (word_at (114 ∷ 117 ∷ 101 ∷ []) (m.boolean_word true) line.now) }
+{
+    if line.starts_with(b"rue") {
+        (Token::Atom(Item::Bool(true)), &line[3..])
+    } else {
+        (Token::Bad, &[])
+    }
+}
+
+fn false_token(line: &[u8]) -> (Token, &[u8])
+    ensures { IsPart result.0 result.1.now (word_at (97 ∷ 108 ∷ 115 ∷ 101 ∷ []) (m.boolean_word false) line.now) }
+{
+    if line.starts_with(b"alse") {
+        (Token::Atom(Item::Bool(false)), &line[4..])
+    } else {
+        (Token::Bad, &[])
+    }
+}
+
+// The token of a text that begins with this byte, which is no space.
+#[tactic(auto, unfolding(json_text::specs::Machine::token_from))]
+fn token_from<'a>(
+    alloc: Global,
+    b: u8,
+    rest: &'a [u8],
+    line: &'a [u8],
+) -> Result<(Token, &'a [u8]), NoMemory>
+    requires { line.now ≡ b ∷ rest.now }
+    ensures { IfOk result (λ p. IsPart p.0 p.1.now (token_from_of b rest.now)) }
+{
+    if b == b'[' {
+        return Ok((Token::OpenArray, rest));
+    }
+    if b == b']' {
+        return Ok((Token::CloseArray, rest));
+    }
+    if b == b'{' {
+        return Ok((Token::OpenObject, rest));
+    }
+    if b == b'}' {
+        return Ok((Token::CloseObject, rest));
+    }
+    if b == b',' {
+        return Ok((Token::Comma, rest));
+    }
+    if b == b':' {
+        return Ok((Token::Colon, rest));
+    }
+    if b == b'"' {
+        return string_token(alloc, rest);
+    }
+    if b == b'n' {
+        return Ok(null_token(rest));
+    }
+    if b == b't' {
+        return Ok(true_token(rest));
+    }
+    if b == b'f' {
+        return Ok(false_token(rest));
+    }
+    Ok(number_token(line))
+}
+
+/// The token at the front, behind spaces, and what is behind it.
+pub fn next_token(alloc: Global, line: &[u8]) -> Result<(Token, &[u8]), NoMemory>
+    ensures { IfOk result (λ p. IsPart p.0 p.1.now (token_at line.now)) }
+{
+    let left = skip_spaces(line);
+    match uncons(left) {
+        None => Ok((Token::End, &[])),
+        Some((b, rest)) => token_from(alloc, b, rest, left),
+    }
+}

@@ -1,0 +1,238 @@
+//! One turn of the machine.
+
+ghost use Rattle.std.specs.Prelude.{◌≡◌, ◌∷◌, [], true, false, IfOk, OnOk};
+ghost use Rattle.num_fixed.specs.Numeral.{Numeral};
+ghost use Rattle.item_tree.specs.Item.{datum};
+ghost use Rattle.json_text.specs.Machine as m;
+ghost use Rattle.json_text.specs.Build.{start};
+ghost use Rattle.item_reader.specs.Tokens.{StandsFor, IsNumberOut};
+ghost use Rattle.item_reader.specs.View.{build_of, mode_of, kinds_of};
+ghost use Rattle.json_text.specs.Fits.{BuildFits};
+ghost use Rattle.item_reader.specs.Turns.{IsTurn, IsAdded, Steps, closing};
+
+use crate::build::{Build, Trouble};
+use crate::frame::Frame;
+use crate::members::Members;
+use crate::token::Token;
+use item_tree::{Item, NoMemory, Str};
+use std::alloc::Global;
+
+#[derive(Clone, Copy, Debug)]
+pub enum Mode {
+    Value(bool),
+    Key(bool),
+    Name,
+    After,
+}
+
+#[derive(Drop)]
+pub struct State {
+    pub mode: Mode,
+    /// Whether each container that is open is an array, the innermost last.
+    pub kinds: Vec<bool>,
+    pub build: Build,
+}
+
+#[derive(Clone, Copy, Debug)]
+pub enum Turn {
+    More,
+    End,
+    NotJson,
+}
+
+fn push_kind(kinds: &mut Vec<bool>, is_array: bool) -> Result<(), NoMemory>
+    ensures { OnOk result (kinds_of kinds.new.items ≡ is_array ∷ kinds_of kinds.old.items) }
+{
+    match kinds.push(is_array) {
+        Ok(()) => Ok(()),
+        Err(_) => Err(NoMemory),
+    }
+}
+
+impl State {
+    pub fn new(alloc: Global) -> State
+        ensures build { build_of result.build ≡ start }
+        ensures kinds { kinds_of result.kinds.items ≡ [] }
+        ensures mode { mode_of result.mode ≡ m.value false }
+    {
+        State {
+            mode: Mode::Value(false),
+            kinds: Vec::new(alloc),
+            build: Build::new(alloc),
+        }
+    }
+
+    fn open_array(&mut self, alloc: Global) -> Result<(), NoMemory>
+        ensures { OnOk result (Steps self.old m.opens_array (m.value true) (true ∷ kinds_of self.old.kinds.items) self.new) }
+    {
+        self.build.open(Frame::Array(Vec::new(alloc)))?;
+        push_kind(&mut self.kinds, true)?;
+        self.mode = Mode::Value(true);
+        Ok(())
+    }
+
+    fn open_object(&mut self, alloc: Global) -> Result<(), NoMemory>
+        ensures { OnOk result (Steps self.old m.opens_object (m.key true) (false ∷ kinds_of self.old.kinds.items) self.new) }
+    {
+        self.build.open(Frame::Object(Members::new(alloc), None))?;
+        push_kind(&mut self.kinds, false)?;
+        self.mode = Mode::Key(true);
+        Ok(())
+    }
+
+    // The innermost container closes, if it is of this kind.
+    fn close(&mut self, alloc: Global, is_array: bool) -> Result<Turn, NoMemory>
+        requires { BuildFits (build_of self.old.build) }
+        ensures { IfOk result (λ r. IsTurn m.after self.old (closing is_array) r self.new) }
+    {
+        match self.kinds.pop() {
+            Some(kind) => {
+                if kind != is_array {
+                    return Ok(Turn::NotJson);
+                }
+                self.build.close(alloc)?;
+                self.mode = Mode::After;
+                Ok(Turn::More)
+            }
+            None => Ok(Turn::NotJson),
+        }
+    }
+
+    fn add(&mut self, alloc: Global, item: Item) -> Result<(), NoMemory>
+        requires { BuildFits (build_of self.old.build) }
+        ensures { OnOk result (IsAdded self.old (datum item) self.new) }
+    {
+        self.build.add(alloc, item)?;
+        self.mode = Mode::After;
+        Ok(())
+    }
+
+    fn number_out(&mut self)
+        ensures { (n : Numeral) → IsNumberOut (m.numeral n) → Steps self.old (m.a_number n) m.after (kinds_of self.old.kinds.items) self.new }
+    {
+        self.build.fail(Trouble::NumberOut);
+        self.mode = Mode::After;
+    }
+
+    fn set_key(&mut self, text: Str)
+        ensures { Steps self.old (m.keyed text) m.name (kinds_of self.old.kinds.items) self.new }
+    {
+        self.build.set_key(text);
+        self.mode = Mode::Name;
+    }
+
+    fn value_turn(&mut self, alloc: Global, may_end: bool, token: Token) -> Result<Turn, NoMemory>
+        requires { BuildFits (build_of self.old.build) }
+        ensures { (t : m.Token) → StandsFor token t → IfOk result (λ r. IsTurn (m.value may_end) self.old t r self.new) }
+    {
+        match token {
+            Token::OpenArray => self.open_array(alloc)?,
+            Token::OpenObject => self.open_object(alloc)?,
+            Token::Atom(item) => self.add(alloc, item)?,
+            Token::Text(text) => self.add(alloc, Item::Text(text))?,
+            Token::NumberOut => self.number_out(),
+            Token::CloseArray => {
+                if may_end {
+                    return self.close(alloc, true);
+                }
+                return Ok(Turn::NotJson);
+            }
+            Token::CloseObject | Token::Comma | Token::Colon | Token::End | Token::Bad => {
+                return Ok(Turn::NotJson);
+            }
+        }
+        Ok(Turn::More)
+    }
+
+    fn key_turn(&mut self, alloc: Global, may_end: bool, token: Token) -> Result<Turn, NoMemory>
+        requires { BuildFits (build_of self.old.build) }
+        ensures { (t : m.Token) → StandsFor token t → IfOk result (λ r. IsTurn (m.key may_end) self.old t r self.new) }
+    {
+        match token {
+            Token::Text(text) => {
+                self.set_key(text);
+                Ok(Turn::More)
+            }
+            Token::CloseObject => {
+                if may_end {
+                    self.close(alloc, false)
+                } else {
+                    Ok(Turn::NotJson)
+                }
+            }
+            Token::OpenArray
+            | Token::CloseArray
+            | Token::OpenObject
+            | Token::Comma
+            | Token::Colon
+            | Token::Atom(_)
+            | Token::NumberOut
+            | Token::End
+            | Token::Bad => Ok(Turn::NotJson),
+        }
+    }
+
+    fn name_turn(&mut self, token: &Token) -> Turn
+        ensures { (t : m.Token) → StandsFor token.now t → IsTurn m.name self.old t result self.new }
+    {
+        match token {
+            Token::Colon => {
+                self.mode = Mode::Value(false);
+                Turn::More
+            }
+            _ => Turn::NotJson,
+        }
+    }
+
+    fn go_on(&mut self) -> Turn
+        ensures { IsTurn m.after self.old m.comma result self.new }
+    {
+        match self.kinds.last() {
+            None => Turn::NotJson,
+            Some(true) => {
+                self.mode = Mode::Value(false);
+                Turn::More
+            }
+            Some(false) => {
+                self.mode = Mode::Key(false);
+                Turn::More
+            }
+        }
+    }
+
+    fn end_turn(&self) -> Turn
+        ensures { IsTurn m.after self.now m.end result self.now }
+    {
+        if self.kinds.is_empty() {
+            Turn::End
+        } else {
+            Turn::NotJson
+        }
+    }
+
+    fn after_turn(&mut self, alloc: Global, token: &Token) -> Result<Turn, NoMemory>
+        requires { BuildFits (build_of self.old.build) }
+        ensures { (t : m.Token) → StandsFor token.now t → IfOk result (λ r. IsTurn m.after self.old t r self.new) }
+    {
+        match token {
+            Token::Comma => Ok(self.go_on()),
+            Token::CloseArray => self.close(alloc, true),
+            Token::CloseObject => self.close(alloc, false),
+            Token::End => Ok(self.end_turn()),
+            _ => Ok(Turn::NotJson),
+        }
+    }
+
+    /// The turn of this token.
+    pub fn take(&mut self, alloc: Global, token: Token) -> Result<Turn, NoMemory>
+        requires { BuildFits (build_of self.old.build) }
+        ensures { (t : m.Token) → StandsFor token t → IfOk result (λ r. IsTurn (mode_of self.old.mode) self.old t r self.new) }
+    {
+        match self.mode {
+            Mode::Value(may_end) => self.value_turn(alloc, may_end, token),
+            Mode::Key(may_end) => self.key_turn(alloc, may_end, token),
+            Mode::Name => Ok(self.name_turn(&token)),
+            Mode::After => self.after_turn(alloc, &token),
+        }
+    }
+}
