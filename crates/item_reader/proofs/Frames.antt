@@ -1,7 +1,6 @@
 -- The frames of the code, and what is built of them.
-use Rattle.std.specs.Prelude.{◌≡◌, ◌<◌, ◌≤◌, ℕ, zero, suc, ◌+◌, Bool, true, false, nat_lt, List, [], ◌∷◌, ◌++◌, length, map, reverse, Option, Some, None, take, get_or, refl}
-use Rattle.std.specs.Option.{option_to_list}
-use Rattle.std.proofs.Common.{sym, ◌∙◌, ap, subst, arith, append-nil}
+use Rattle.std.specs.Prelude.{◌≡◌, ◌<◌, ◌≤◌, ℕ, zero, suc, ◌+◌, true, false, nat_lt, List, [], ◌∷◌, ◌++◌, length, map, reverse, Some, None, take, get_or, refl}
+use Rattle.std.proofs.Common.{sym, ◌∙◌, ap, subst, arith}
 use Rattle.std.proofs.Math.ListN.{set}
 use Rattle.std.proofs.lemmas.Bool.Decides.{nat_tests}
 use Rattle.std.proofs.lemmas.List.{reverse-append, map-append, length-reverse, length-map}

@@ -3,11 +3,10 @@ use Rattle.std.specs.Prelude.{◌≡◌, ◌≢◌, ◌<◌, ℕ, zero, suc, Boo
 use Rattle.std.specs.Str.{bytes_eq}
 use Rattle.std.proofs.Common.{sym, ◌∙◌, ap, subst, arith, map-id, drop-cons, take-append-drop}
 use Rattle.std.proofs.Math.ListN.{set}
-use Rattle.std.proofs.lemmas.Bool.{both_ways}
 use Rattle.std.proofs.lemmas.Slice.Eq.{bytes_eq-Decides}
 use Rattle.indexmap.specs.IndexMap.{insert_entry}
 use Rattle.item_tree.specs.declared.item.Item.{Item}
-use Rattle.item_tree.specs.Datum.{Datum, NoneHas, KeysDiffer}
+use Rattle.item_tree.specs.Datum.{NoneHas, KeysDiffer}
 use Rattle.item_tree.specs.Item.{datum, pair_datums}
 use Rattle.item_tree.specs.Lookup.{place_of}
 use Rattle.json_text.specs.Meaning.{put}

@@ -1,13 +1,12 @@
 -- Steps through a number.
-use Rattle.std.specs.Prelude.{◌≡◌, ◌⊎◌, ◌≤◌, ◌<◌, ℕ, suc, ◌+◌, ◌-◌, Bool, true, false, cond, List, [], ◌∷◌, ◌++◌, length, take, drop, Option, Some, None, option_map, refl}
+use Rattle.std.specs.Prelude.{◌≡◌, ◌≤◌, ℕ, suc, ◌+◌, ◌-◌, Bool, true, false, cond, List, [], ◌∷◌, ◌++◌, length, take, drop, Option, Some, None, option_map, refl}
 use Rattle.std.specs.Char.{is_ascii_digit}
 use Rattle.std.specs.List.{prefix_len}
 use Rattle.std.proofs.Common.{sym, ◌∙◌, ap, subst, inl, inr, arith, append_assoc, append-nil, length-append}
-use Rattle.std.proofs.lemmas.Bool.{cond_both}
 use Rattle.std.proofs.lemmas.List.{take_at}
-use Rattle.num_fixed.specs.Numeral.{Sign, none, plus, minus, Numeral, AreDigits, IsSign, IsFrac, IsExp, IsNumeral}
+use Rattle.num_fixed.specs.Numeral.{Sign, none, plus, minus, Numeral, IsSign, IsFrac, IsExp, IsNumeral}
 use Rattle.json_text.specs.Json.{IsJsonNumber}
-use Rattle.json_text.specs.Scan.{Part, and_then, digits_at, minus_at, int_at, frac_at, exp_at, numeral_at}
+use Rattle.json_text.specs.Scan.{Part, digits_at, minus_at, int_at, frac_at, exp_at, numeral_at}
 use Rattle.json_text.proofs.NumeralLemmas.{PartIs, numeral_is}
 use Rattle.item_reader.proofs.Parts.{part_there, no_part, same_rests}
 

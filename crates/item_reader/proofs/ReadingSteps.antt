@@ -1,7 +1,7 @@
 -- What a line reads as, by what is built of it.
-use Rattle.std.specs.Prelude.{◌≡◌, ℕ, Bool, true, false, List, Option, Some, None, option_map, refl}
+use Rattle.std.specs.Prelude.{◌≡◌, ℕ, true, false, List, Option, Some, option_map, refl}
 use Rattle.std.proofs.Common.{sym, ◌∙◌, ap}
-use Rattle.json_text.specs.Line.{Reading, blank, is_blank}
+use Rattle.json_text.specs.Line.{blank, is_blank}
 use Rattle.json_text.specs.Build as b
 use Rattle.json_text.proofs.ReadingLemmas.{never_building}
 use Rattle.item_reader.specs.declared.build.Build.{Build}

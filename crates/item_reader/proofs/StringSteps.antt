@@ -1,12 +1,12 @@
 -- Steps through a string, and what they leave to spell.
-use Rattle.std.specs.Prelude.{◌≡◌, ◌≤◌, ◌<◌, ◌^◌, ℕ, suc, ◌+◌, ◌-◌, ◌*◌, ◌==◌, ◌&&◌, ◌||◌, not, nat_le, Bool, true, false, cond, List, [], ◌∷◌, ◌++◌, length, take, drop, Option, Some, None, option_map, encode_utf8, refl}
+use Rattle.std.specs.Prelude.{◌≡◌, ℕ, suc, ◌+◌, ◌==◌, ◌&&◌, not, nat_le, Bool, true, false, cond, List, [], ◌∷◌, ◌++◌, take, drop, Option, Some, None, option_map, encode_utf8, refl}
 use Rattle.std.specs.List.{prefix_len}
 use Rattle.std.specs.Str.{chars, IsUtf8, is_utf8}
 use Rattle.std.proofs.lemmas.Str.{IsUtf8-from_is_utf8}
 use Rattle.std.proofs.Common.{Bor, MatchOption, sym, ◌∙◌, ap, subst, arith, append_assoc, append-nil}
 use Rattle.std.proofs.lemmas.Bool.{cond_both, and_parts, not-true, ne_eqb}
 use Rattle.std.proofs.lemmas.Bool.Decides.{nat_tests}
-use Rattle.item_tree.specs.JsonString.{Piece, byte, unit, is_raw, short_escape, code_unit, content, is_high_half, is_low_half, lone_character, paired_character, IsPiece, ArePieces}
+use Rattle.item_tree.specs.JsonString.{Piece, byte, unit, is_raw, short_escape, code_unit, content, is_high_half, is_low_half, lone_character, paired_character, ArePieces}
 use Rattle.json_text.specs.Scan.{Part, and_then, plain, after_backslash, after_u, put_front, byte_front, unit_front, pieces_at}
 use Rattle.json_text.specs.Machine.{characters, bad, string_token}
 use Rattle.json_text.proofs.StringLemmas.{Written, pieces_are}

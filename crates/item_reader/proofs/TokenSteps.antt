@@ -1,8 +1,8 @@
 -- Steps to the next token.
-use Rattle.std.specs.Prelude.{◌≡◌, ℕ, Bool, true, false, List, [], ◌∷◌, Option, Some, None, refl}
-use Rattle.std.proofs.Common.{sym, ◌∙◌, ap, subst}
+use Rattle.std.specs.Prelude.{◌≡◌, ℕ, true, false, List, [], ◌∷◌, Some, None, refl}
+use Rattle.std.proofs.Common.{sym, ◌∙◌, ap}
 use Rattle.json_text.specs.Json.{is_space}
-use Rattle.json_text.specs.Machine.{Token, end, token_from, token_at}
+use Rattle.json_text.specs.Machine.{end, token_from, token_at}
 use Rattle.item_reader.specs.Tokens.{uncons, begins}
 use Rattle.item_reader.proofs.Parts.{cons_of, nil_of}
 

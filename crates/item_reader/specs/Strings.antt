@@ -1,5 +1,5 @@
 -- The content of a string, taken from the front of a text.
-use Rattle.std.specs.Prelude.{ℕ, ◌++◌, ◌==◌, ◌&&◌, List, [], ◌∷◌, Option, Some, None, option_map, if◌then◌else◌}
+use Rattle.std.specs.Prelude.{ℕ, ◌++◌, ◌==◌, ◌&&◌, List, [], ◌∷◌, Some, None, option_map, if◌then◌else◌}
 use Rattle.item_tree.specs.JsonString.{Piece, content, code_unit, is_low_half}
 use Rattle.json_text.specs.Scan.{Part, and_then}
 

@@ -1,5 +1,5 @@
 -- What the code's tokens stand for.
-use Rattle.std.specs.Prelude.{◌≡◌, ℕ, Bool, true, false, List, [], ◌∷◌, Option, Some, None, Ok, Err}
+use Rattle.std.specs.Prelude.{◌≡◌, ℕ, Bool, false, List, [], ◌∷◌, Option, Some, None, Ok, Err}
 use Rattle.item_tree.specs.Datum.{Datum, null, boolean}
 use Rattle.item_tree.specs.Item.{datum}
 use Rattle.json_text.specs.Meaning.{number_out}

@@ -1,5 +1,5 @@
 -- One turn of the machine, in the code.
-use Rattle.std.specs.Prelude.{◌≡◌, ℕ, Bool, true, false, List, [], ◌∷◌, Option, Some, None}
+use Rattle.std.specs.Prelude.{◌≡◌, Bool, true, false, Option, Some, None}
 use Rattle.json_text.specs.Machine as m
 use Rattle.json_text.specs.Build as b
 use Rattle.item_tree.specs.Datum.{Datum}

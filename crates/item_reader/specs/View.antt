@@ -1,6 +1,5 @@
 -- What the code's state stands for.
-use Rattle.std.specs.Prelude.{◌≡◌, ℕ, Bool, true, false, List, [], ◌∷◌, ◌++◌, map, reverse, Option, Some, None}
-use Rattle.indexmap.specs.IndexMap.{IndexMap}
+use Rattle.std.specs.Prelude.{ℕ, Bool, true, false, List, [], ◌∷◌, ◌++◌, map, reverse, Some, None}
 use Rattle.item_tree.specs.Datum.{Datum, array_of_list, object_of_pairs}
 use Rattle.item_tree.specs.Item.{datum, datums, pair_datums}
 use Rattle.json_text.specs.Meaning as j

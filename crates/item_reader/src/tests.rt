@@ -1,5 +1,7 @@
 use super::*;
-use item_tree::{Code, Item, Str, Units, Whole, array_of, deep_equal, object_of};
+use item_tree::{Code, Item, Str, Whole, array_of, deep_equal, object_of};
+use std::alloc::Global;
+use std::test::Fail;
 
 #[derive(Clone, Copy, Debug, PartialEq)]
 enum Answer<'a> {
@@ -237,4 +239,100 @@ fn the_first_trouble_decides(rt: HostRuntime) {
             "at {line:?}"
         );
     }
+}
+
+// A line of so many brackets that open, a text, and so many that close.
+fn nested(alloc: Global, opened: usize, text: &str, closed: usize) -> Result<Vec<u8>, Fail> {
+    let mut line = Vec::new(alloc);
+    for _i in 0..opened {
+        line.push(b'[')?;
+    }
+    line.extend_from_slice(text.as_bytes())?;
+    for _i in 0..closed {
+        line.push(b']')?;
+    }
+    Ok(line)
+}
+
+#[test]
+fn counts_open_brackets(rt: HostRuntime) -> Result<(), Fail> {
+    let alloc = rt.alloc();
+    let lines = [
+        (128, "", 128, Answer::Array(1)),
+        (127, "[{}]", 127, TOO_DEEP),
+        (127, "[],{}", 127, Answer::Array(1)),
+        (128, "1", 128, Answer::Array(1)),
+        (129, "", 129, TOO_DEEP),
+        (129, "", 128, NOT_JSON),
+        (129, "1e400", 129, TOO_DEEP),
+        (128, "1e400,[]", 128, NUMBER_OUT),
+        (128, "[],1e400", 128, TOO_DEEP),
+        (1_000_000, "", 0, NOT_JSON),
+        (100_000, "", 100_000, TOO_DEEP),
+    ];
+    for (opened, text, closed, want) in lines {
+        let line = nested(alloc, opened, text, closed)?;
+        assert_eq!(rt;
+            answer_of(&read_item(alloc, &line)),
+            want,
+            "at {opened} {text} {closed}"
+        );
+    }
+    Ok(())
+}
+
+#[test]
+fn a_repeated_key_keeps_its_place(rt: HostRuntime) -> Result<(), Fail> {
+    let alloc = rt.alloc();
+    let line = b"{\"b\":1,\"a\":2,\"b\":[null,3],\"\\u0061\":true}";
+    let read = read_item(alloc, line);
+    assert_eq!(rt; answer_of(&read), Answer::Object(2));
+    let Ok(Some(item)) = read else {
+        return Ok(());
+    };
+    let inner = array_of(alloc, vec![in alloc; Item::Null, Item::Int(Whole::new(3))]?)?;
+    let want = object_of(
+        alloc,
+        vec![in alloc;
+            (Str::of(alloc, "b")?, inner),
+            (Str::of(alloc, "a")?, Item::Bool(true)),
+        ]?,
+    )?;
+    assert!(rt; deep_equal(&vec![in alloc; item.copy()?]?, &vec![in alloc; want]?));
+    if let Item::Object(pairs) = &item {
+        for (pair, key) in pairs.as_slice().iter().zip(["b", "a"]) {
+            assert_eq!(rt; pair.0.as_str(), key);
+        }
+    }
+    Ok(())
+}
+
+// So many keys are found by a hash.
+#[test]
+fn reads_many_keys(rt: HostRuntime) -> Result<(), Fail> {
+    let alloc = rt.alloc();
+    let mut line = String::from_str(alloc, "{")?;
+    for i in 0..1000u32 {
+        line.push_str(format!(in alloc; "\"k{i}\":{i},")?.as_str())?;
+    }
+    line.push_str("\"k7\":null,\"k999\":true}")?;
+    let read = read_item(alloc, line.as_bytes());
+    assert_eq!(rt; answer_of(&read), Answer::Object(1000));
+    if let Ok(Some(Item::Object(pairs))) = &read {
+        for (i, pair) in pairs.as_slice().iter().enumerate() {
+            let key = format!(in alloc; "k{i}")?;
+            assert_eq!(rt; pair.0.as_str(), key.as_str());
+            let changed = matches!(&pair.1, Item::Null | Item::Bool(true));
+            assert_eq!(rt; changed, i == 7 || i == 999, "at {i}");
+        }
+    }
+    Ok(())
+}
+
+#[test]
+fn faults_have_codes(rt: HostRuntime) {
+    assert_eq!(rt; LineFault::NotJson.code(), Some(Code::JNDY0021));
+    assert_eq!(rt; LineFault::NumberOut.code(), Some(Code::PJDY0004));
+    assert_eq!(rt; LineFault::TooDeep.code(), Some(Code::PJDY0002));
+    assert_eq!(rt; LineFault::NoMemory.code(), None);
 }

@@ -1,5 +1,5 @@
-use Rattle.std.proofs.Common.{sym, ◌∙◌, ap, arith}
-use Rattle.item_reader.specs.View.{key_inside, frame_of, frames_of}
+use Rattle.std.proofs.Common.{◌∙◌, ap, arith}
+use Rattle.item_reader.specs.View.{key_inside, frame_of}
 use Rattle.item_reader.proofs.Frames.{set_last}
 use Rattle.item_reader.proofs.frame.set_key_in_place.Goals as goal
 

@@ -1,7 +1,7 @@
-use Rattle.std.proofs.Common.{◌≡◌, sym, ◌∙◌, ap}
+use Rattle.std.proofs.Common.{◌∙◌, ap}
 use Rattle.std.proofs.lemmas.Iterator.Adapters.{YieldsList-from_vec}
 use Rattle.std.proofs.lemmas.Iterator.Consumers.{YieldsList-turn, YieldsList-so_far}
-use Rattle.item_tree.specs.Item.{datum, pair_datums}
+use Rattle.item_tree.specs.Item.{datum}
 use Rattle.json_text.specs.Meaning.{put}
 use Rattle.item_reader.proofs.MemberSteps.{next_hashed}
 use Rattle.item_reader.proofs.members.hashed.Goals as goal

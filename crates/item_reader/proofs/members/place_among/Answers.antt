@@ -1,4 +1,4 @@
-use Rattle.std.proofs.Common.{◌≡◌, true, false, Some, None, cond, sym, ap, ◌∙◌}
+use Rattle.std.proofs.Common.{◌≡◌, true, false, Some, None, cond, sym, ◌∙◌}
 use Rattle.std.specs.Str.{bytes_eq}
 use Rattle.item_tree.proofs.Places.{place_first, place_more, or_place}
 use Rattle.item_reader.proofs.members.place_among.Goals as goal

@@ -1,5 +1,5 @@
 use Rattle.std.proofs.Common.{◌≡◌, Some, None, sym, ◌∙◌, ap, arith}
-use Rattle.item_tree.specs.Item.{datum, pair_datums}
+use Rattle.item_tree.specs.Item.{pair_datums}
 use Rattle.item_tree.specs.Lookup.{place_of}
 use Rattle.item_tree.proofs.Places.{place_inside_pairs}
 use Rattle.item_reader.proofs.MemberSteps.{put_new, put_there}

@@ -1,4 +1,4 @@
-use Rattle.std.proofs.Common.{Bor, List, ℕ, option_map, sym, ◌∙◌, ap}
+use Rattle.std.proofs.Common.{Bor, List, ℕ, option_map, ◌∙◌, ap}
 use Rattle.item_reader.proofs.NumberSteps.{no_int, no_frac, behind_all}
 use Rattle.item_reader.proofs.number.behind_numeral.Goals as goal
 

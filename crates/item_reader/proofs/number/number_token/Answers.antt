@@ -1,5 +1,5 @@
-use Rattle.std.proofs.Common.{◌≡◌, sym, ◌∙◌, ap, subst, arith, refl, Some}
-use Rattle.std.specs.Prelude.{[], List, ℕ, take, length, ◌-◌}
+use Rattle.std.proofs.Common.{sym, subst, arith, refl}
+use Rattle.std.specs.Prelude.{[]}
 use Rattle.num_fixed.specs.Numeral.{Numeral, IsNumeral}
 use Rattle.json_text.specs.Scan.{Part}
 use Rattle.json_text.specs.Machine.{numeral_token}

@@ -1,5 +1,5 @@
-use Rattle.std.proofs.Common.{◌≡◌, ◌<ℤ◌, sym, ◌∙◌, ap, subst, arith, Ok, pos}
-use Rattle.std.proofs.lemmas.Int.{ints, to_z-of_z}
+use Rattle.std.proofs.Common.{◌≡◌, sym, ◌∙◌, ap, subst, arith, Ok}
+use Rattle.std.proofs.lemmas.Int.{ints}
 use Rattle.num_fixed.specs.Bounds.{NumberInBounds, InBounds}
 use Rattle.num_fixed.specs.Numeral.{Says}
 use Rattle.num_fixed.specs.declared.number.Kind.TheVariants.{Whole, Units}

@@ -1,5 +1,4 @@
 use Rattle.std.proofs.Common.{sym, ◌∙◌, ap}
-use Rattle.json_text.specs.Build as b
 use Rattle.std.specs.Prelude.{option_map}
 use Rattle.item_reader.specs.View.{build_of}
 use Rattle.item_reader.specs.declared.build.Progress.TheVariants.{Troubled}

@@ -1,4 +1,4 @@
-use Rattle.std.proofs.Common.{◌≡◌, ◌<◌, sym, ◌∙◌, ap, subst, arith, length}
+use Rattle.std.proofs.Common.{◌<◌, sym, ◌∙◌, ap, subst, length}
 use Rattle.json_text.specs.Machine.{token_at, run}
 use Rattle.json_text.specs.Build.{outcome, made}
 use Rattle.item_reader.specs.View.{build_of, mode_of, kinds_of}

@@ -1,5 +1,4 @@
-use Rattle.std.proofs.Common.{◌≡◌, sym, ◌∙◌, ap, true}
-use Rattle.item_tree.specs.JsonString.{is_high_half}
+use Rattle.std.proofs.Common.{sym, ◌∙◌, ap}
 use Rattle.std.specs.Prelude.{encode_utf8}
 use Rattle.json_text.specs.Scan.{plain, pieces_at}
 use Rattle.item_reader.specs.Strings.{contents, behind}

@@ -1,6 +1,5 @@
-use Rattle.std.proofs.Common.{◌≡◌, None, Some, sym, ◌∙◌, ap, subst, arith}
+use Rattle.std.proofs.Common.{◌≡◌, None, sym, ◌∙◌, ap, arith}
 use Rattle.std.proofs.lemmas.List.Sums.{prefix_len-le-length}
-use Rattle.std.specs.Prelude.{[], false}
 use Rattle.item_tree.specs.JsonString.{is_raw}
 use Rattle.json_text.specs.Scan.{plain, pieces_at, after_backslash}
 use Rattle.item_reader.specs.Tokens.{begins}

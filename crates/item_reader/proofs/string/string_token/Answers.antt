@@ -1,11 +1,9 @@
-use Rattle.std.proofs.Common.{◌≡◌, sym, ◌∙◌, ap, subst, refl, true, false}
-use Rattle.std.specs.Prelude.{[], List, ℕ}
-use Rattle.std.specs.Str.{chars, is_utf8, IsUtf8}
+use Rattle.std.proofs.Common.{◌≡◌, sym, ◌∙◌, ap, true}
+use Rattle.std.specs.Str.{chars, is_utf8}
 use Rattle.std.proofs.lemmas.Bool.{false≢true}
 use Rattle.std.proofs.lemmas.Str.{is_utf8-from_IsUtf8, IsUtf8-had}
 use Rattle.json_text.specs.Scan.{string_at}
 use Rattle.json_text.specs.Machine as m
-use Rattle.item_reader.specs.Strings.{contents}
 use Rattle.item_reader.proofs.StringSteps.{string_there, string_refused, no_utf8}
 use Rattle.item_reader.proofs.string.string_token.Goals as goal
 

@@ -1,4 +1,4 @@
-use Rattle.std.proofs.Common.{◌≡◌, refl, sym, arith, length}
+use Rattle.std.proofs.Common.{refl, arith}
 use Rattle.item_reader.proofs.Frames.{nothing_long}
 use Rattle.item_reader.proofs.Turning.{closes_wrong, closes_right, closes_none}
 use Rattle.item_reader.proofs.turn.State.close.Goals as goal

@@ -1,4 +1,4 @@
-use Rattle.std.proofs.Common.{◌≡◌, Option, None, Some, Bool, true, false, refl, sym, ◌∙◌, ap, subst, length, ◌-◌}
+use Rattle.std.proofs.Common.{◌≡◌, Option, None, Some, Bool, refl, sym, ◌∙◌, ap, subst, length, ◌-◌}
 use Rattle.std.specs.Prelude.{List, slice_get}
 use Rattle.item_reader.proofs.Turning.{next_none, next_value, next_key}
 use Rattle.item_reader.proofs.turn.State.go_on.Goals as goal
