@@ -259,7 +259,6 @@ fn failing(alloc: Global, opens: &[u64], calls: &[(u64, u64)]) -> Result<Fails, 
 #[test]
 fn tells_failed_reads(rt: HostRuntime) -> Result<(), Fail> {
     let alloc = rt.alloc();
-    let mut runs = 0;
     let mut faults = Vec::new(alloc);
     for open in 1..3u64 {
         faults.push(failing(alloc, &[open], &[])?)?;
@@ -267,21 +266,16 @@ fn tells_failed_reads(rt: HostRuntime) -> Result<(), Fail> {
             faults.push(failing(alloc, &[], &[(open, call)])?)?;
         }
     }
-    for fails in faults {
+    assert_eq!(rt; faults.len(), 6);
+    for (at, fails) in faults.into_iter().enumerate() {
         let files = two_files(alloc, ONE_QUERY, b"12\n")?;
         assert!(rt; names_differ(&files));
         let inputs = MemInputs::new(alloc, files, fails)?;
         let left = run(&rt, alloc, &["run", "q"], inputs, (100, 100))?;
-        assert_eq!(rt; left.status, Status::ReadFault, "in run {runs}");
-        assert!(rt; left.out.bytes().is_empty(), "in run {runs}");
-        assert_eq!(rt;
-            left.err.bytes(),
-            b"read fault\n".as_slice(),
-            "in run {runs}"
-        );
-        runs += 1;
+        assert_eq!(rt; left.status, Status::ReadFault, "in run {at}");
+        assert!(rt; left.out.bytes().is_empty(), "in run {at}");
+        assert_eq!(rt; left.err.bytes(), b"read fault\n".as_slice(), "in run {at}");
     }
-    assert_eq!(rt; runs, 6);
     Ok(())
 }
 
