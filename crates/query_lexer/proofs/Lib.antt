@@ -1,0 +1,19 @@
+pub mod Cases
+pub mod CommentLemmas
+pub mod Runs
+pub mod Reaching
+pub mod LongestNumbers
+pub mod SoundNumbers
+pub mod StringLemmas
+pub mod Classes
+pub mod LongestTokens
+pub mod NestingLemmas
+pub mod SoundTokens
+pub mod RangeLemmas
+pub mod StepLemmas
+pub mod PathLemmas
+pub mod PlaceLemmas
+pub mod BoundaryLemmas
+pub mod TokenFacts
+pub mod ValueLemmas
+mod Rows
