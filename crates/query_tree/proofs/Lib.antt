@@ -1,0 +1,4 @@
+pub mod Folds
+pub mod Layers
+mod NestingLaws
+mod NestingRows

@@ -1,0 +1,4 @@
+pub mod Laws
+pub mod Modules
+pub mod Nesting
+pub mod Plain

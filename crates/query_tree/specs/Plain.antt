@@ -1,0 +1,385 @@
+-- Written by tools/plain_trees.py from the types of src/. Change those, and run it again.
+-- Trees as plain values, without where they lie in memory.
+use Rattle.std.specs.Prelude.{ℕ, ℤ, Bool, List, [], ◌∷◌, Option, Some, None, option_map, map}
+use Rattle.std.specs.declared.alloc.Global.{Global}
+use Rattle.std.specs.declared.boxed.Box.{Box}
+use Rattle.query_tree.specs.declared.clause.Clause.{Clause, Clause-F, fold-Clause}
+use Rattle.query_tree.specs.declared.clause.GroupVar.{GroupVar, GroupVar-F, fold-GroupVar}
+use Rattle.query_tree.specs.declared.expr.Kind.{Kind, Kind-F, fold-Kind}
+use Rattle.query_tree.specs.declared.part.PairKey.{PairKey, PairKey-F, fold-PairKey}
+use Rattle.query_tree.specs.declared.step.Lookup.{Lookup, Lookup-F, fold-Lookup}
+use Rattle.query_tree.specs.declared.step.Step.{Step, Step-F, fold-Step}
+use Rattle.query_tree.specs.declared.clause.OrderKey.{OrderKey, OrderKey-F, fold-OrderKey}
+use Rattle.query_tree.specs.declared.expr.Expr.{Expr, Expr-F, fold-Expr}
+use Rattle.query_tree.specs.declared.part.Bind.{Bind, Bind-F, fold-Bind}
+use Rattle.query_tree.specs.declared.part.Case.{Case, Case-F, fold-Case}
+use Rattle.query_tree.specs.declared.part.Catch.{Catch, Catch-F, fold-Catch}
+use Rattle.query_tree.specs.declared.part.Factor.{Factor, Factor-F, fold-Factor}
+use Rattle.query_tree.specs.declared.part.Operand.{Operand, Operand-F, fold-Operand}
+use Rattle.query_tree.specs.declared.part.Pair.{Pair, Pair-F, fold-Pair}
+use Rattle.query_tree.specs.declared.part.Term.{Term, Term-F, fold-Term}
+use Rattle.query_tree.specs.declared.part.TypeCase.{TypeCase, TypeCase-F, fold-TypeCase}
+use Rattle.query_tree.specs.declared.names.Placed.{Placed}
+use Rattle.query_tree.specs.declared.operator.CompareOp.{CompareOp}
+use Rattle.query_tree.specs.declared.operator.ProductOp.{ProductOp}
+use Rattle.query_tree.specs.declared.operator.Quantifier.{Quantifier}
+use Rattle.query_tree.specs.declared.operator.SumOp.{SumOp}
+use Rattle.query_tree.specs.declared.clause.Clause.TheOpen as node
+
+mutual
+  pub data Tree (V F T : Type 0) : Type 0 where
+    tree_node : (place : ℕ) → (kind : Form V F T) → Tree V F T
+
+  pub data Trees (V F T : Type 0) : Type 0 where
+    no_trees : Trees V F T
+    more_trees : Tree V F T → Trees V F T → Trees V F T
+
+  pub data PlainClause (V F T : Type 0) : Type 0 where
+    for_clause : (variable : Placed V) → (of : Option (Placed T)) → (allowing_empty : Bool) → (at : Option (Placed V)) → (source : Tree V F T) → PlainClause V F T
+    let_clause : (variable : Placed V) → (of : Option (Placed T)) → (value : Tree V F T) → PlainClause V F T
+    keep_clause : (place : ℕ) → (test : Tree V F T) → PlainClause V F T
+    group_clause : (place : ℕ) → (keys : PlainGroupVars V F T) → PlainClause V F T
+    order_clause : (place : ℕ) → (stable : Bool) → (keys : PlainOrderKeys V F T) → PlainClause V F T
+    count_clause : (place : ℕ) → (variable : Placed V) → PlainClause V F T
+
+  pub data PlainClauses (V F T : Type 0) : Type 0 where
+    no_clauses : PlainClauses V F T
+    more_clauses : PlainClause V F T → PlainClauses V F T → PlainClauses V F T
+
+  pub data PlainGroupVar (V F T : Type 0) : Type 0 where
+    stream_group_var : (variable : Placed V) → PlainGroupVar V F T
+    computed_group_var : (variable : Placed V) → (value : Tree V F T) → PlainGroupVar V F T
+
+  pub data PlainGroupVars (V F T : Type 0) : Type 0 where
+    no_group_vars : PlainGroupVars V F T
+    more_group_vars : PlainGroupVar V F T → PlainGroupVars V F T → PlainGroupVars V F T
+
+  pub data Form (V F T : Type 0) : Type 0 where
+    comma_form : (first : Tree V F T) → (rest : PlainOperands V F T) → Form V F T
+    flwor_form : (clauses : PlainClauses V F T) → (place : ℕ) → (result : Tree V F T) → Form V F T
+    quant_form : (quantifier : Quantifier) → (binds : PlainBinds V F T) → (test : Tree V F T) → Form V F T
+    switch_form : (operand : Tree V F T) → (cases : PlainCases V F T) → (default : Tree V F T) → Form V F T
+    typeswitch_form : (operand : Tree V F T) → (cases : PlainTypeCases V F T) → (variable : Option (Placed V)) → (default : Tree V F T) → Form V F T
+    if_form : (condition : Tree V F T) → (when_true : Tree V F T) → (when_false : Tree V F T) → Form V F T
+    try_form : (body : Tree V F T) → (catches : PlainCatches V F T) → Form V F T
+    or_form : (first : Tree V F T) → (rest : PlainOperands V F T) → Form V F T
+    and_form : (first : Tree V F T) → (rest : PlainOperands V F T) → Form V F T
+    not_form : (operand : Tree V F T) → Form V F T
+    compare_form : (left : Tree V F T) → (op : CompareOp) → (place : ℕ) → (right : Tree V F T) → Form V F T
+    concat_form : (first : Tree V F T) → (rest : PlainOperands V F T) → Form V F T
+    range_form : (left : Tree V F T) → (place : ℕ) → (right : Tree V F T) → Form V F T
+    sum_form : (first : Tree V F T) → (rest : PlainTerms V F T) → Form V F T
+    product_form : (first : Tree V F T) → (rest : PlainFactors V F T) → Form V F T
+    instance_form : (operand : Tree V F T) → (place : ℕ) → (of : Placed T) → Form V F T
+    treat_form : (operand : Tree V F T) → (place : ℕ) → (to : Placed T) → Form V F T
+    castable_form : (operand : Tree V F T) → (place : ℕ) → (to : Placed T) → Form V F T
+    cast_form : (operand : Tree V F T) → (place : ℕ) → (to : Placed T) → Form V F T
+    sign_form : (signs : List (SumOp × ℕ)) → (operand : Tree V F T) → Form V F T
+    map_form : (first : Tree V F T) → (rest : PlainOperands V F T) → Form V F T
+    postfix_form : (primary : Tree V F T) → (steps : PlainSteps V F T) → Form V F T
+    int_form : (value : ℤ) → Form V F T
+    dec_form : (value : ℤ) → Form V F T
+    text_form : (value : List ℕ) → Form V F T
+    true_form : Form V F T
+    false_form : Form V F T
+    null_form : Form V F T
+    var_form : (variable : V) → Form V F T
+    context_form : Form V F T
+    paren_form : (content : MaybeTree V F T) → Form V F T
+    object_form : (pairs : PlainPairs V F T) → Form V F T
+    merge_form : (content : MaybeTree V F T) → Form V F T
+    array_form : (content : MaybeTree V F T) → Form V F T
+    call_form : (function : F) → (arguments : Trees V F T) → Form V F T
+
+  pub data PlainPairKey (V F T : Type 0) : Type 0 where
+    name_pair_key : (name : List ℕ) → PlainPairKey V F T
+    computed_pair_key : (value : Tree V F T) → PlainPairKey V F T
+
+  pub data PlainLookup (V F T : Type 0) : Type 0 where
+    name_lookup : (name : List ℕ) → PlainLookup V F T
+    text_lookup : (value : List ℕ) → PlainLookup V F T
+    var_lookup : (variable : Placed V) → PlainLookup V F T
+    context_lookup : (place : ℕ) → PlainLookup V F T
+    computed_lookup : (value : Tree V F T) → PlainLookup V F T
+
+  pub data PlainStep (V F T : Type 0) : Type 0 where
+    members_step : (place : ℕ) → PlainStep V F T
+    member_step : (place : ℕ) → (position : Tree V F T) → PlainStep V F T
+    filter_step : (place : ℕ) → (test : Tree V F T) → PlainStep V F T
+    field_step : (place : ℕ) → (key : PlainLookup V F T) → PlainStep V F T
+
+  pub data PlainSteps (V F T : Type 0) : Type 0 where
+    no_steps : PlainSteps V F T
+    more_steps : PlainStep V F T → PlainSteps V F T → PlainSteps V F T
+
+  pub data PlainOrderKey (V F T : Type 0) : Type 0 where
+    order_key_node : (value : Tree V F T) → (descending : Bool) → (empty_greatest : Bool) → PlainOrderKey V F T
+
+  pub data PlainOrderKeys (V F T : Type 0) : Type 0 where
+    no_order_keys : PlainOrderKeys V F T
+    more_order_keys : PlainOrderKey V F T → PlainOrderKeys V F T → PlainOrderKeys V F T
+
+  pub data PlainBind (V F T : Type 0) : Type 0 where
+    bind_node : (variable : Placed V) → (of : Option (Placed T)) → (source : Tree V F T) → PlainBind V F T
+
+  pub data PlainBinds (V F T : Type 0) : Type 0 where
+    no_binds : PlainBinds V F T
+    more_binds : PlainBind V F T → PlainBinds V F T → PlainBinds V F T
+
+  pub data PlainCase (V F T : Type 0) : Type 0 where
+    case_node : (tests : Trees V F T) → (result : Tree V F T) → PlainCase V F T
+
+  pub data PlainCases (V F T : Type 0) : Type 0 where
+    no_cases : PlainCases V F T
+    more_cases : PlainCase V F T → PlainCases V F T → PlainCases V F T
+
+  pub data PlainCatch (V F T : Type 0) : Type 0 where
+    catch_node : (error : Placed V) → (codes : Option (List (List ℕ))) → (body : Tree V F T) → PlainCatch V F T
+
+  pub data PlainCatches (V F T : Type 0) : Type 0 where
+    no_catches : PlainCatches V F T
+    more_catches : PlainCatch V F T → PlainCatches V F T → PlainCatches V F T
+
+  pub data PlainFactor (V F T : Type 0) : Type 0 where
+    factor_node : (op : ProductOp) → (place : ℕ) → (value : Tree V F T) → PlainFactor V F T
+
+  pub data PlainFactors (V F T : Type 0) : Type 0 where
+    no_factors : PlainFactors V F T
+    more_factors : PlainFactor V F T → PlainFactors V F T → PlainFactors V F T
+
+  pub data PlainOperand (V F T : Type 0) : Type 0 where
+    operand_node : (place : ℕ) → (value : Tree V F T) → PlainOperand V F T
+
+  pub data PlainOperands (V F T : Type 0) : Type 0 where
+    no_operands : PlainOperands V F T
+    more_operands : PlainOperand V F T → PlainOperands V F T → PlainOperands V F T
+
+  pub data PlainPair (V F T : Type 0) : Type 0 where
+    pair_node : (key : PlainPairKey V F T) → (place : ℕ) → (value : Tree V F T) → PlainPair V F T
+
+  pub data PlainPairs (V F T : Type 0) : Type 0 where
+    no_pairs : PlainPairs V F T
+    more_pairs : PlainPair V F T → PlainPairs V F T → PlainPairs V F T
+
+  pub data PlainTerm (V F T : Type 0) : Type 0 where
+    term_node : (op : SumOp) → (place : ℕ) → (value : Tree V F T) → PlainTerm V F T
+
+  pub data PlainTerms (V F T : Type 0) : Type 0 where
+    no_terms : PlainTerms V F T
+    more_terms : PlainTerm V F T → PlainTerms V F T → PlainTerms V F T
+
+  pub data PlainTypeCase (V F T : Type 0) : Type 0 where
+    type_case_node : (variable : Option (Placed V)) → (types : List (Placed T)) → (result : Tree V F T) → PlainTypeCase V F T
+
+  pub data PlainTypeCases (V F T : Type 0) : Type 0 where
+    no_type_cases : PlainTypeCases V F T
+    more_type_cases : PlainTypeCase V F T → PlainTypeCases V F T → PlainTypeCases V F T
+
+  pub data MaybeTree (V F T : Type 0) : Type 0 where
+    no_tree : MaybeTree V F T
+    one_tree : Tree V F T → MaybeTree V F T
+
+module _ (V F T : Type 0) where
+  abbrev pub clauses_of : List (PlainClause V F T) → PlainClauses V F T
+  clauses_of [] = no_clauses
+  clauses_of (x ∷ xs) = more_clauses x (clauses_of xs)
+
+  abbrev pub group_vars_of : List (PlainGroupVar V F T) → PlainGroupVars V F T
+  group_vars_of [] = no_group_vars
+  group_vars_of (x ∷ xs) = more_group_vars x (group_vars_of xs)
+
+  abbrev pub steps_of : List (PlainStep V F T) → PlainSteps V F T
+  steps_of [] = no_steps
+  steps_of (x ∷ xs) = more_steps x (steps_of xs)
+
+  abbrev pub order_keys_of : List (PlainOrderKey V F T) → PlainOrderKeys V F T
+  order_keys_of [] = no_order_keys
+  order_keys_of (x ∷ xs) = more_order_keys x (order_keys_of xs)
+
+  abbrev pub trees_of : List (Tree V F T) → Trees V F T
+  trees_of [] = no_trees
+  trees_of (x ∷ xs) = more_trees x (trees_of xs)
+
+  abbrev pub binds_of : List (PlainBind V F T) → PlainBinds V F T
+  binds_of [] = no_binds
+  binds_of (x ∷ xs) = more_binds x (binds_of xs)
+
+  abbrev pub cases_of : List (PlainCase V F T) → PlainCases V F T
+  cases_of [] = no_cases
+  cases_of (x ∷ xs) = more_cases x (cases_of xs)
+
+  abbrev pub catches_of : List (PlainCatch V F T) → PlainCatches V F T
+  catches_of [] = no_catches
+  catches_of (x ∷ xs) = more_catches x (catches_of xs)
+
+  abbrev pub factors_of : List (PlainFactor V F T) → PlainFactors V F T
+  factors_of [] = no_factors
+  factors_of (x ∷ xs) = more_factors x (factors_of xs)
+
+  abbrev pub operands_of : List (PlainOperand V F T) → PlainOperands V F T
+  operands_of [] = no_operands
+  operands_of (x ∷ xs) = more_operands x (operands_of xs)
+
+  abbrev pub pairs_of : List (PlainPair V F T) → PlainPairs V F T
+  pairs_of [] = no_pairs
+  pairs_of (x ∷ xs) = more_pairs x (pairs_of xs)
+
+  abbrev pub terms_of : List (PlainTerm V F T) → PlainTerms V F T
+  terms_of [] = no_terms
+  terms_of (x ∷ xs) = more_terms x (terms_of xs)
+
+  abbrev pub type_cases_of : List (PlainTypeCase V F T) → PlainTypeCases V F T
+  type_cases_of [] = no_type_cases
+  type_cases_of (x ∷ xs) = more_type_cases x (type_cases_of xs)
+
+  abbrev pub maybe_tree : Option (Box (Tree V F T) Global) → MaybeTree V F T
+  maybe_tree None = no_tree
+  maybe_tree (Some t) = one_tree t.value
+
+  abbrev pub clause_layer : Clause-F V F T (PlainClause V F T) (PlainGroupVar V F T) (Form V F T) (PlainPairKey V F T) (PlainLookup V F T) (PlainStep V F T) (PlainOrderKey V F T) (Tree V F T) (PlainBind V F T) (PlainCase V F T) (PlainCatch V F T) (PlainFactor V F T) (PlainOperand V F T) (PlainPair V F T) (PlainTerm V F T) (PlainTypeCase V F T) → PlainClause V F T
+  clause_layer (node.For variable' of' allowing_empty' at' source') = for_clause variable' of' allowing_empty' at' source'
+  clause_layer (node.Let variable' of' value') = let_clause variable' of' value'
+  clause_layer (node.Keep place' test') = keep_clause place' test'
+  clause_layer (node.Group place' keys') = group_clause place' (group_vars_of keys'.items)
+  clause_layer (node.Order place' stable' keys') = order_clause place' stable' (order_keys_of keys'.items)
+  clause_layer (node.Count place' variable') = count_clause place' variable'
+
+  abbrev pub group_var_layer : GroupVar-F V F T (PlainClause V F T) (PlainGroupVar V F T) (Form V F T) (PlainPairKey V F T) (PlainLookup V F T) (PlainStep V F T) (PlainOrderKey V F T) (Tree V F T) (PlainBind V F T) (PlainCase V F T) (PlainCatch V F T) (PlainFactor V F T) (PlainOperand V F T) (PlainPair V F T) (PlainTerm V F T) (PlainTypeCase V F T) → PlainGroupVar V F T
+  group_var_layer (node.Stream variable') = stream_group_var variable'
+  group_var_layer (node.GroupVar::Computed variable' value') = computed_group_var variable' value'
+
+  abbrev pub kind_layer : Kind-F V F T (PlainClause V F T) (PlainGroupVar V F T) (Form V F T) (PlainPairKey V F T) (PlainLookup V F T) (PlainStep V F T) (PlainOrderKey V F T) (Tree V F T) (PlainBind V F T) (PlainCase V F T) (PlainCatch V F T) (PlainFactor V F T) (PlainOperand V F T) (PlainPair V F T) (PlainTerm V F T) (PlainTypeCase V F T) → Form V F T
+  kind_layer (node.Comma first' rest') = comma_form first'.value (operands_of rest'.items)
+  kind_layer (node.Flwor clauses' place' result') = flwor_form (clauses_of clauses'.items) place' result'.value
+  kind_layer (node.Quant quantifier' binds' test') = quant_form quantifier' (binds_of binds'.items) test'.value
+  kind_layer (node.Switch operand' cases' default') = switch_form operand'.value (cases_of cases'.items) default'.value
+  kind_layer (node.Typeswitch operand' cases' variable' default') = typeswitch_form operand'.value (type_cases_of cases'.items) variable' default'.value
+  kind_layer (node.If condition' when_true' when_false') = if_form condition'.value when_true'.value when_false'.value
+  kind_layer (node.Try body' catches') = try_form body'.value (catches_of catches'.items)
+  kind_layer (node.Or first' rest') = or_form first'.value (operands_of rest'.items)
+  kind_layer (node.And first' rest') = and_form first'.value (operands_of rest'.items)
+  kind_layer (node.Not operand') = not_form operand'.value
+  kind_layer (node.Compare left' op' place' right') = compare_form left'.value op' place' right'.value
+  kind_layer (node.Concat first' rest') = concat_form first'.value (operands_of rest'.items)
+  kind_layer (node.Range left' place' right') = range_form left'.value place' right'.value
+  kind_layer (node.Sum first' rest') = sum_form first'.value (terms_of rest'.items)
+  kind_layer (node.Product first' rest') = product_form first'.value (factors_of rest'.items)
+  kind_layer (node.Instance operand' place' of') = instance_form operand'.value place' of'
+  kind_layer (node.Treat operand' place' to') = treat_form operand'.value place' to'
+  kind_layer (node.Castable operand' place' to') = castable_form operand'.value place' to'
+  kind_layer (node.Cast operand' place' to') = cast_form operand'.value place' to'
+  kind_layer (node.Sign signs' operand') = sign_form signs'.items operand'.value
+  kind_layer (node.Map first' rest') = map_form first'.value (operands_of rest'.items)
+  kind_layer (node.Postfix primary' steps') = postfix_form primary'.value (steps_of steps'.items)
+  kind_layer (node.Int value') = int_form value'
+  kind_layer (node.Dec value') = dec_form value'
+  kind_layer (node.Kind::Text value') = text_form value'
+  kind_layer node.True = true_form
+  kind_layer node.False = false_form
+  kind_layer node.Null = null_form
+  kind_layer (node.Kind::Var variable') = var_form variable'
+  kind_layer node.Kind::Context = context_form
+  kind_layer (node.Paren content') = paren_form (maybe_tree content')
+  kind_layer (node.Object pairs') = object_form (pairs_of pairs'.items)
+  kind_layer (node.Merge content') = merge_form (maybe_tree content')
+  kind_layer (node.Array content') = array_form (maybe_tree content')
+  kind_layer (node.Call function' arguments') = call_form function' (trees_of arguments'.items)
+
+  abbrev pub pair_key_layer : PairKey-F V F T (PlainClause V F T) (PlainGroupVar V F T) (Form V F T) (PlainPairKey V F T) (PlainLookup V F T) (PlainStep V F T) (PlainOrderKey V F T) (Tree V F T) (PlainBind V F T) (PlainCase V F T) (PlainCatch V F T) (PlainFactor V F T) (PlainOperand V F T) (PlainPair V F T) (PlainTerm V F T) (PlainTypeCase V F T) → PlainPairKey V F T
+  pair_key_layer (node.PairKey::Name name') = name_pair_key name'
+  pair_key_layer (node.PairKey::Computed value') = computed_pair_key value'
+
+  abbrev pub lookup_layer : Lookup-F V F T (PlainClause V F T) (PlainGroupVar V F T) (Form V F T) (PlainPairKey V F T) (PlainLookup V F T) (PlainStep V F T) (PlainOrderKey V F T) (Tree V F T) (PlainBind V F T) (PlainCase V F T) (PlainCatch V F T) (PlainFactor V F T) (PlainOperand V F T) (PlainPair V F T) (PlainTerm V F T) (PlainTypeCase V F T) → PlainLookup V F T
+  lookup_layer (node.Lookup::Name name') = name_lookup name'
+  lookup_layer (node.Lookup::Text value') = text_lookup value'
+  lookup_layer (node.Lookup::Var variable') = var_lookup variable'
+  lookup_layer (node.Lookup::Context place') = context_lookup place'
+  lookup_layer (node.Lookup::Computed value') = computed_lookup value'
+
+  abbrev pub step_layer : Step-F V F T (PlainClause V F T) (PlainGroupVar V F T) (Form V F T) (PlainPairKey V F T) (PlainLookup V F T) (PlainStep V F T) (PlainOrderKey V F T) (Tree V F T) (PlainBind V F T) (PlainCase V F T) (PlainCatch V F T) (PlainFactor V F T) (PlainOperand V F T) (PlainPair V F T) (PlainTerm V F T) (PlainTypeCase V F T) → PlainStep V F T
+  step_layer (node.Members place') = members_step place'
+  step_layer (node.Member place' position') = member_step place' position'
+  step_layer (node.Filter place' test') = filter_step place' test'
+  step_layer (node.Field place' key') = field_step place' key'
+
+  abbrev pub order_key_layer : OrderKey-F V F T (PlainClause V F T) (PlainGroupVar V F T) (Form V F T) (PlainPairKey V F T) (PlainLookup V F T) (PlainStep V F T) (PlainOrderKey V F T) (Tree V F T) (PlainBind V F T) (PlainCase V F T) (PlainCatch V F T) (PlainFactor V F T) (PlainOperand V F T) (PlainPair V F T) (PlainTerm V F T) (PlainTypeCase V F T) → PlainOrderKey V F T
+  order_key_layer x = order_key_node x.value x.descending x.empty_greatest
+
+  abbrev pub expr_layer : Expr-F V F T (PlainClause V F T) (PlainGroupVar V F T) (Form V F T) (PlainPairKey V F T) (PlainLookup V F T) (PlainStep V F T) (PlainOrderKey V F T) (Tree V F T) (PlainBind V F T) (PlainCase V F T) (PlainCatch V F T) (PlainFactor V F T) (PlainOperand V F T) (PlainPair V F T) (PlainTerm V F T) (PlainTypeCase V F T) → Tree V F T
+  expr_layer x = tree_node x.place x.kind
+
+  abbrev pub bind_layer : Bind-F V F T (PlainClause V F T) (PlainGroupVar V F T) (Form V F T) (PlainPairKey V F T) (PlainLookup V F T) (PlainStep V F T) (PlainOrderKey V F T) (Tree V F T) (PlainBind V F T) (PlainCase V F T) (PlainCatch V F T) (PlainFactor V F T) (PlainOperand V F T) (PlainPair V F T) (PlainTerm V F T) (PlainTypeCase V F T) → PlainBind V F T
+  bind_layer x = bind_node x.variable x.of x.source
+
+  abbrev pub case_layer : Case-F V F T (PlainClause V F T) (PlainGroupVar V F T) (Form V F T) (PlainPairKey V F T) (PlainLookup V F T) (PlainStep V F T) (PlainOrderKey V F T) (Tree V F T) (PlainBind V F T) (PlainCase V F T) (PlainCatch V F T) (PlainFactor V F T) (PlainOperand V F T) (PlainPair V F T) (PlainTerm V F T) (PlainTypeCase V F T) → PlainCase V F T
+  case_layer x = case_node (trees_of x.tests.items) x.result
+
+  abbrev pub catch_layer : Catch-F V F T (PlainClause V F T) (PlainGroupVar V F T) (Form V F T) (PlainPairKey V F T) (PlainLookup V F T) (PlainStep V F T) (PlainOrderKey V F T) (Tree V F T) (PlainBind V F T) (PlainCase V F T) (PlainCatch V F T) (PlainFactor V F T) (PlainOperand V F T) (PlainPair V F T) (PlainTerm V F T) (PlainTypeCase V F T) → PlainCatch V F T
+  catch_layer x = catch_node x.error (option_map (λ v. v.items) x.codes) x.body
+
+  abbrev pub factor_layer : Factor-F V F T (PlainClause V F T) (PlainGroupVar V F T) (Form V F T) (PlainPairKey V F T) (PlainLookup V F T) (PlainStep V F T) (PlainOrderKey V F T) (Tree V F T) (PlainBind V F T) (PlainCase V F T) (PlainCatch V F T) (PlainFactor V F T) (PlainOperand V F T) (PlainPair V F T) (PlainTerm V F T) (PlainTypeCase V F T) → PlainFactor V F T
+  factor_layer x = factor_node x.op x.place x.value
+
+  abbrev pub operand_layer : Operand-F V F T (PlainClause V F T) (PlainGroupVar V F T) (Form V F T) (PlainPairKey V F T) (PlainLookup V F T) (PlainStep V F T) (PlainOrderKey V F T) (Tree V F T) (PlainBind V F T) (PlainCase V F T) (PlainCatch V F T) (PlainFactor V F T) (PlainOperand V F T) (PlainPair V F T) (PlainTerm V F T) (PlainTypeCase V F T) → PlainOperand V F T
+  operand_layer x = operand_node x.place x.value
+
+  abbrev pub pair_layer : Pair-F V F T (PlainClause V F T) (PlainGroupVar V F T) (Form V F T) (PlainPairKey V F T) (PlainLookup V F T) (PlainStep V F T) (PlainOrderKey V F T) (Tree V F T) (PlainBind V F T) (PlainCase V F T) (PlainCatch V F T) (PlainFactor V F T) (PlainOperand V F T) (PlainPair V F T) (PlainTerm V F T) (PlainTypeCase V F T) → PlainPair V F T
+  pair_layer x = pair_node x.key x.place x.value
+
+  abbrev pub term_layer : Term-F V F T (PlainClause V F T) (PlainGroupVar V F T) (Form V F T) (PlainPairKey V F T) (PlainLookup V F T) (PlainStep V F T) (PlainOrderKey V F T) (Tree V F T) (PlainBind V F T) (PlainCase V F T) (PlainCatch V F T) (PlainFactor V F T) (PlainOperand V F T) (PlainPair V F T) (PlainTerm V F T) (PlainTypeCase V F T) → PlainTerm V F T
+  term_layer x = term_node x.op x.place x.value
+
+  abbrev pub type_case_layer : TypeCase-F V F T (PlainClause V F T) (PlainGroupVar V F T) (Form V F T) (PlainPairKey V F T) (PlainLookup V F T) (PlainStep V F T) (PlainOrderKey V F T) (Tree V F T) (PlainBind V F T) (PlainCase V F T) (PlainCatch V F T) (PlainFactor V F T) (PlainOperand V F T) (PlainPair V F T) (PlainTerm V F T) (PlainTypeCase V F T) → PlainTypeCase V F T
+  type_case_layer x = type_case_node x.variable x.types.items x.result
+
+  unfoldable pub clause_of : Clause V F T → PlainClause V F T
+  clause_of = fold-Clause V F T (PlainClause V F T) (PlainGroupVar V F T) (Form V F T) (PlainPairKey V F T) (PlainLookup V F T) (PlainStep V F T) (PlainOrderKey V F T) (Tree V F T) (PlainBind V F T) (PlainCase V F T) (PlainCatch V F T) (PlainFactor V F T) (PlainOperand V F T) (PlainPair V F T) (PlainTerm V F T) (PlainTypeCase V F T) clause_layer group_var_layer kind_layer pair_key_layer lookup_layer step_layer order_key_layer expr_layer bind_layer case_layer catch_layer factor_layer operand_layer pair_layer term_layer type_case_layer
+
+  unfoldable pub group_var_of : GroupVar V F T → PlainGroupVar V F T
+  group_var_of = fold-GroupVar V F T (PlainClause V F T) (PlainGroupVar V F T) (Form V F T) (PlainPairKey V F T) (PlainLookup V F T) (PlainStep V F T) (PlainOrderKey V F T) (Tree V F T) (PlainBind V F T) (PlainCase V F T) (PlainCatch V F T) (PlainFactor V F T) (PlainOperand V F T) (PlainPair V F T) (PlainTerm V F T) (PlainTypeCase V F T) clause_layer group_var_layer kind_layer pair_key_layer lookup_layer step_layer order_key_layer expr_layer bind_layer case_layer catch_layer factor_layer operand_layer pair_layer term_layer type_case_layer
+
+  unfoldable pub form_of : Kind V F T → Form V F T
+  form_of = fold-Kind V F T (PlainClause V F T) (PlainGroupVar V F T) (Form V F T) (PlainPairKey V F T) (PlainLookup V F T) (PlainStep V F T) (PlainOrderKey V F T) (Tree V F T) (PlainBind V F T) (PlainCase V F T) (PlainCatch V F T) (PlainFactor V F T) (PlainOperand V F T) (PlainPair V F T) (PlainTerm V F T) (PlainTypeCase V F T) clause_layer group_var_layer kind_layer pair_key_layer lookup_layer step_layer order_key_layer expr_layer bind_layer case_layer catch_layer factor_layer operand_layer pair_layer term_layer type_case_layer
+
+  unfoldable pub pair_key_of : PairKey V F T → PlainPairKey V F T
+  pair_key_of = fold-PairKey V F T (PlainClause V F T) (PlainGroupVar V F T) (Form V F T) (PlainPairKey V F T) (PlainLookup V F T) (PlainStep V F T) (PlainOrderKey V F T) (Tree V F T) (PlainBind V F T) (PlainCase V F T) (PlainCatch V F T) (PlainFactor V F T) (PlainOperand V F T) (PlainPair V F T) (PlainTerm V F T) (PlainTypeCase V F T) clause_layer group_var_layer kind_layer pair_key_layer lookup_layer step_layer order_key_layer expr_layer bind_layer case_layer catch_layer factor_layer operand_layer pair_layer term_layer type_case_layer
+
+  unfoldable pub lookup_of : Lookup V F T → PlainLookup V F T
+  lookup_of = fold-Lookup V F T (PlainClause V F T) (PlainGroupVar V F T) (Form V F T) (PlainPairKey V F T) (PlainLookup V F T) (PlainStep V F T) (PlainOrderKey V F T) (Tree V F T) (PlainBind V F T) (PlainCase V F T) (PlainCatch V F T) (PlainFactor V F T) (PlainOperand V F T) (PlainPair V F T) (PlainTerm V F T) (PlainTypeCase V F T) clause_layer group_var_layer kind_layer pair_key_layer lookup_layer step_layer order_key_layer expr_layer bind_layer case_layer catch_layer factor_layer operand_layer pair_layer term_layer type_case_layer
+
+  unfoldable pub step_of : Step V F T → PlainStep V F T
+  step_of = fold-Step V F T (PlainClause V F T) (PlainGroupVar V F T) (Form V F T) (PlainPairKey V F T) (PlainLookup V F T) (PlainStep V F T) (PlainOrderKey V F T) (Tree V F T) (PlainBind V F T) (PlainCase V F T) (PlainCatch V F T) (PlainFactor V F T) (PlainOperand V F T) (PlainPair V F T) (PlainTerm V F T) (PlainTypeCase V F T) clause_layer group_var_layer kind_layer pair_key_layer lookup_layer step_layer order_key_layer expr_layer bind_layer case_layer catch_layer factor_layer operand_layer pair_layer term_layer type_case_layer
+
+  unfoldable pub order_key_of : OrderKey V F T → PlainOrderKey V F T
+  order_key_of = fold-OrderKey V F T (PlainClause V F T) (PlainGroupVar V F T) (Form V F T) (PlainPairKey V F T) (PlainLookup V F T) (PlainStep V F T) (PlainOrderKey V F T) (Tree V F T) (PlainBind V F T) (PlainCase V F T) (PlainCatch V F T) (PlainFactor V F T) (PlainOperand V F T) (PlainPair V F T) (PlainTerm V F T) (PlainTypeCase V F T) clause_layer group_var_layer kind_layer pair_key_layer lookup_layer step_layer order_key_layer expr_layer bind_layer case_layer catch_layer factor_layer operand_layer pair_layer term_layer type_case_layer
+
+  unfoldable pub tree_of : Expr V F T → Tree V F T
+  tree_of = fold-Expr V F T (PlainClause V F T) (PlainGroupVar V F T) (Form V F T) (PlainPairKey V F T) (PlainLookup V F T) (PlainStep V F T) (PlainOrderKey V F T) (Tree V F T) (PlainBind V F T) (PlainCase V F T) (PlainCatch V F T) (PlainFactor V F T) (PlainOperand V F T) (PlainPair V F T) (PlainTerm V F T) (PlainTypeCase V F T) clause_layer group_var_layer kind_layer pair_key_layer lookup_layer step_layer order_key_layer expr_layer bind_layer case_layer catch_layer factor_layer operand_layer pair_layer term_layer type_case_layer
+
+  unfoldable pub bind_of : Bind V F T → PlainBind V F T
+  bind_of = fold-Bind V F T (PlainClause V F T) (PlainGroupVar V F T) (Form V F T) (PlainPairKey V F T) (PlainLookup V F T) (PlainStep V F T) (PlainOrderKey V F T) (Tree V F T) (PlainBind V F T) (PlainCase V F T) (PlainCatch V F T) (PlainFactor V F T) (PlainOperand V F T) (PlainPair V F T) (PlainTerm V F T) (PlainTypeCase V F T) clause_layer group_var_layer kind_layer pair_key_layer lookup_layer step_layer order_key_layer expr_layer bind_layer case_layer catch_layer factor_layer operand_layer pair_layer term_layer type_case_layer
+
+  unfoldable pub case_of : Case V F T → PlainCase V F T
+  case_of = fold-Case V F T (PlainClause V F T) (PlainGroupVar V F T) (Form V F T) (PlainPairKey V F T) (PlainLookup V F T) (PlainStep V F T) (PlainOrderKey V F T) (Tree V F T) (PlainBind V F T) (PlainCase V F T) (PlainCatch V F T) (PlainFactor V F T) (PlainOperand V F T) (PlainPair V F T) (PlainTerm V F T) (PlainTypeCase V F T) clause_layer group_var_layer kind_layer pair_key_layer lookup_layer step_layer order_key_layer expr_layer bind_layer case_layer catch_layer factor_layer operand_layer pair_layer term_layer type_case_layer
+
+  unfoldable pub catch_of : Catch V F T → PlainCatch V F T
+  catch_of = fold-Catch V F T (PlainClause V F T) (PlainGroupVar V F T) (Form V F T) (PlainPairKey V F T) (PlainLookup V F T) (PlainStep V F T) (PlainOrderKey V F T) (Tree V F T) (PlainBind V F T) (PlainCase V F T) (PlainCatch V F T) (PlainFactor V F T) (PlainOperand V F T) (PlainPair V F T) (PlainTerm V F T) (PlainTypeCase V F T) clause_layer group_var_layer kind_layer pair_key_layer lookup_layer step_layer order_key_layer expr_layer bind_layer case_layer catch_layer factor_layer operand_layer pair_layer term_layer type_case_layer
+
+  unfoldable pub factor_of : Factor V F T → PlainFactor V F T
+  factor_of = fold-Factor V F T (PlainClause V F T) (PlainGroupVar V F T) (Form V F T) (PlainPairKey V F T) (PlainLookup V F T) (PlainStep V F T) (PlainOrderKey V F T) (Tree V F T) (PlainBind V F T) (PlainCase V F T) (PlainCatch V F T) (PlainFactor V F T) (PlainOperand V F T) (PlainPair V F T) (PlainTerm V F T) (PlainTypeCase V F T) clause_layer group_var_layer kind_layer pair_key_layer lookup_layer step_layer order_key_layer expr_layer bind_layer case_layer catch_layer factor_layer operand_layer pair_layer term_layer type_case_layer
+
+  unfoldable pub operand_of : Operand V F T → PlainOperand V F T
+  operand_of = fold-Operand V F T (PlainClause V F T) (PlainGroupVar V F T) (Form V F T) (PlainPairKey V F T) (PlainLookup V F T) (PlainStep V F T) (PlainOrderKey V F T) (Tree V F T) (PlainBind V F T) (PlainCase V F T) (PlainCatch V F T) (PlainFactor V F T) (PlainOperand V F T) (PlainPair V F T) (PlainTerm V F T) (PlainTypeCase V F T) clause_layer group_var_layer kind_layer pair_key_layer lookup_layer step_layer order_key_layer expr_layer bind_layer case_layer catch_layer factor_layer operand_layer pair_layer term_layer type_case_layer
+
+  unfoldable pub pair_of : Pair V F T → PlainPair V F T
+  pair_of = fold-Pair V F T (PlainClause V F T) (PlainGroupVar V F T) (Form V F T) (PlainPairKey V F T) (PlainLookup V F T) (PlainStep V F T) (PlainOrderKey V F T) (Tree V F T) (PlainBind V F T) (PlainCase V F T) (PlainCatch V F T) (PlainFactor V F T) (PlainOperand V F T) (PlainPair V F T) (PlainTerm V F T) (PlainTypeCase V F T) clause_layer group_var_layer kind_layer pair_key_layer lookup_layer step_layer order_key_layer expr_layer bind_layer case_layer catch_layer factor_layer operand_layer pair_layer term_layer type_case_layer
+
+  unfoldable pub term_of : Term V F T → PlainTerm V F T
+  term_of = fold-Term V F T (PlainClause V F T) (PlainGroupVar V F T) (Form V F T) (PlainPairKey V F T) (PlainLookup V F T) (PlainStep V F T) (PlainOrderKey V F T) (Tree V F T) (PlainBind V F T) (PlainCase V F T) (PlainCatch V F T) (PlainFactor V F T) (PlainOperand V F T) (PlainPair V F T) (PlainTerm V F T) (PlainTypeCase V F T) clause_layer group_var_layer kind_layer pair_key_layer lookup_layer step_layer order_key_layer expr_layer bind_layer case_layer catch_layer factor_layer operand_layer pair_layer term_layer type_case_layer
+
+  unfoldable pub type_case_of : TypeCase V F T → PlainTypeCase V F T
+  type_case_of = fold-TypeCase V F T (PlainClause V F T) (PlainGroupVar V F T) (Form V F T) (PlainPairKey V F T) (PlainLookup V F T) (PlainStep V F T) (PlainOrderKey V F T) (Tree V F T) (PlainBind V F T) (PlainCase V F T) (PlainCatch V F T) (PlainFactor V F T) (PlainOperand V F T) (PlainPair V F T) (PlainTerm V F T) (PlainTypeCase V F T) clause_layer group_var_layer kind_layer pair_key_layer lookup_layer step_layer order_key_layer expr_layer bind_layer case_layer catch_layer factor_layer operand_layer pair_layer term_layer type_case_layer
+
+  abbrev pub maybe_tree_of : Option (Box (Expr V F T) Global) → MaybeTree V F T
+  maybe_tree_of None = no_tree
+  maybe_tree_of (Some e) = one_tree (tree_of e.value)

@@ -1,0 +1,9 @@
+//! Laws of the definitions that contracts cite. Each holds of all values: a call brings it to a
+//! proof, and does nothing when it runs.
+
+ghost use Rattle.query_tree.specs.Laws.{NestingCountsForms};
+
+/// The nesting of a tree counts the forms that hold one another, and no operators.
+pub fn nesting_counts_forms()
+    ensures { NestingCountsForms }
+{}

@@ -1,0 +1,22 @@
+//! The trees of queries.
+#![tactic(auto)]
+
+mod clause;
+mod expr;
+pub mod laws;
+mod module;
+mod names;
+mod operator;
+mod part;
+mod step;
+
+pub use clause::{Clause, GroupVar, OrderKey};
+pub use expr::{Expr, Kind};
+pub use module::{Function, Module, Param, Variable};
+pub use names::{NamedExpr, Placed, Query, TypeName};
+pub use operator::{CompareOp, ProductOp, Quantifier, SumOp};
+pub use part::{Bind, Case, Catch, Factor, Operand, Pair, PairKey, Term, TypeCase};
+pub use step::{Lookup, Step};
+
+#[cfg(test)]
+mod tests;

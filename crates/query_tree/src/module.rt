@@ -1,0 +1,33 @@
+use crate::{Expr, Placed};
+
+/// A query: its declared variables and its declared functions, each in text order, and its body.
+#[derive(Drop)]
+pub struct Module<V, F, T> {
+    pub variables: Vec<Variable<V, F, T>>,
+    pub functions: Vec<Function<V, F, T>>,
+    pub body: Expr<V, F, T>,
+}
+
+/// `declare variable $x as t := e`
+#[derive(Drop)]
+pub struct Variable<V, F, T> {
+    pub variable: Placed<V>,
+    pub of: Option<Placed<T>>,
+    pub value: Expr<V, F, T>,
+}
+
+/// `declare function f($x as t) as u { e }`
+#[derive(Drop)]
+pub struct Function<V, F, T> {
+    pub function: Placed<F>,
+    pub params: Vec<Param<V, T>>,
+    pub of: Option<Placed<T>>,
+    pub body: Expr<V, F, T>,
+}
+
+/// A parameter of a declared function.
+#[derive(Drop)]
+pub struct Param<V, T> {
+    pub variable: Placed<V>,
+    pub of: Option<Placed<T>>,
+}

@@ -1,0 +1,361 @@
+#!/usr/bin/env python3
+"""Writes the mechanical part of the crate query_tree from the types of its trees.
+
+The trees of src/ hold boxes and vectors, which say where they lie in memory. A definition speaks of
+their plain values. This script reads the types under `#[cycle(ast)]` and writes
+
+- specs/Plain.antt: a plain type for each of them, with a constructor for each variant or struct, and
+  the plain value of each tree, made by the generated fold;
+- proofs/Folds.antt: what a fold gives at a node that is known;
+- proofs/Layers.antt: the plain value at each variant and at each struct, in one ruleset `layers`.
+
+A new variant needs no more than its lines in src/, a case of `nesting` in specs/Nesting.antt and a
+run of this script: tools/plain_trees.py
+"""
+import re
+from pathlib import Path
+
+CRATE = Path(__file__).resolve().parent.parent / "crates/query_tree"
+HEAD = "-- Written by tools/plain_trees.py from the types of src/. Change those, and run it again.\n"
+
+# The type of src/ that has this plain type; any other is named `Plain` and the type's name.
+PLAIN = {"Expr": "Tree", "Kind": "Form"}
+# Types that stand for plain values, or are plain.
+LEAVES = {"u32": "ℕ", "bool": "Bool", "Str": "List ℕ", "Whole": "ℤ", "Units": "ℤ", "V": "V", "F": "F", "T": "T"}
+
+
+def read_types():
+    """The types of the trees: (name, module, is an enum, [(variant, [(field, type)])])."""
+    types = []
+    for path in sorted((CRATE / "src").glob("*.rt")):
+        text = re.sub(r"//.*", "", path.read_text())
+        for match in re.finditer(r"#\[cycle\(ast\)\]\s*#\[derive\(Drop\)\]\s*pub (enum|struct) (\w+)<V, F, T> \{", text):
+            body, depth, at = "", 1, match.end()
+            while depth:
+                depth += {"{": 1, "}": -1}.get(text[at], 0)
+                body += text[at] if depth else ""
+                at += 1
+            if match[1] == "struct":
+                variants = [(match[2], read_fields(body))]
+            else:
+                variants = [(v, read_fields(fields or "")) for v, fields in re.findall(r"(\w+)(?:\s*\{([^}]*)\})?\s*(?:,|$)", body.strip())]
+            types.append((match[2], path.stem, match[1] == "enum", variants))
+    return types
+
+
+def read_fields(body):
+    fields, depth, word = [], 0, ""
+    for c in body + ",":
+        if c == "," and depth == 0:
+            if word.strip():
+                name, kind = word.replace("pub ", "").split(":", 1)
+                fields.append((name.strip(), re.sub(r"\s+", "", kind)))
+            word = ""
+        else:
+            depth += {"<": 1, "(": 1, ">": -1, ")": -1}.get(c, 0)
+            word += c
+    return fields
+
+
+TYPES = read_types()
+NAMES = [name for name, _, _, _ in TYPES]
+MODULE = {name: module for name, module, _, _ in TYPES}
+ENUMS = {name for name, _, is_enum, _ in TYPES if is_enum}
+VARIANTS = {name: variants for name, _, _, variants in TYPES}
+
+
+def snake(name):
+    return re.sub(r"(?<!^)([A-Z])", r"_\1", name).lower()
+
+
+def plural(word):
+    return word + ("es" if word.endswith(("ch", "s")) else "s")
+
+
+def plain(name):
+    return PLAIN.get(name, "Plain" + name)
+
+
+def value_of(name):
+    """The function from a tree to its plain value."""
+    return snake(PLAIN.get(name, name)) + "_of"
+
+
+def constructor(name, variant):
+    word = snake(PLAIN.get(name, name))
+    return f"{snake(variant)}_{word}" if name in ENUMS else f"{word}_node"
+
+
+def list_type(name):
+    return plural(plain(name))
+
+
+def list_of(name):
+    return plural(snake(PLAIN.get(name, name))) + "_of"
+
+
+def none_of(name):
+    return "no_" + plural(snake(PLAIN.get(name, name)))
+
+
+def more_of(name):
+    return "more_" + plural(snake(PLAIN.get(name, name)))
+
+
+def inner(kind, outer):
+    match = re.fullmatch(outer + r"<(.*)>", kind)
+    return match and match[1]
+
+
+def tree(kind):
+    """The type of a tree that this field holds."""
+    match = re.fullmatch(r"(\w+)<V,F,T>", kind)
+    return match[1] if match and match[1] in NAMES else None
+
+
+def atom(text):
+    return f"({text})" if " " in text else text
+
+
+def leaf(kind):
+    """The plain type of a field that holds no tree."""
+    if kind in LEAVES:
+        return LEAVES[kind]
+    if inner(kind, "Option"):
+        return "Option " + atom(leaf(inner(kind, "Option")))
+    if inner(kind, "Vec"):
+        return "List " + atom(leaf(inner(kind, "Vec")))
+    if inner(kind, "Placed"):
+        return "Placed " + inner(kind, "Placed")
+    if kind.startswith("("):
+        return " × ".join(leaf(k) for k in kind[1:-1].split(","))
+    return kind
+
+
+def plain_field(kind):
+    """The plain type of a field."""
+    if tree(kind):
+        return plain(tree(kind)) + " V F T"
+    if inner(kind, "Box"):
+        return plain_field(inner(kind, "Box"))
+    if inner(kind, "Option") and tree(inner(inner(kind, "Option"), "Box") or ""):
+        return "MaybeTree V F T"
+    if inner(kind, "Vec") and tree(inner(kind, "Vec")):
+        return list_type(tree(inner(kind, "Vec"))) + " V F T"
+    return leaf(kind)
+
+
+def declared(kind):
+    """The type of a field as contracts see it."""
+    if tree(kind):
+        return tree(kind) + " V F T"
+    for outer in ("Box", "Vec"):
+        if inner(kind, outer):
+            return f"{outer} {atom(declared(inner(kind, outer)))} Global"
+    if inner(kind, "Option"):
+        return "Option " + atom(declared(inner(kind, "Option")))
+    return leaf(kind)
+
+
+def converted(kind, x, layer):
+    """The plain value of the field x; in a layer its trees are plain already."""
+    if tree(kind):
+        return x if layer else f"{value_of(tree(kind))} V F T {x}"
+    if inner(kind, "Box"):
+        return converted(inner(kind, "Box"), x + ".value", layer)
+    if inner(kind, "Option"):
+        held = inner(kind, "Option")
+        if inner(held, "Box"):
+            return f"maybe_tree {x}" if layer else f"maybe_tree_of V F T {x}"
+        if inner(held, "Vec"):
+            return f"option_map (λ v. v.items) {x}"
+        return x
+    if inner(kind, "Vec"):
+        held = tree(inner(kind, "Vec"))
+        if not held:
+            return x + ".items"
+        if layer:
+            return f"{list_of(held)} {x}.items"
+        return f"{list_of(held)} V F T (map ({value_of(held)} V F T) {x}.items)"
+    return x
+
+
+# The generated fold takes the enums first, and then the structs, each in the order of their paths.
+ORDER = sorted(NAMES, key=lambda name: (name not in ENUMS, MODULE[name], name))
+LISTS = [n for n in ORDER if any(inner(k, "Vec") == f"{n}<V,F,T>" for v in VARIANTS.values() for _, fs in v for _, k in fs)]
+CARRIERS = " ".join(f"({plain(n)} V F T)" for n in ORDER)
+LAYERS = [snake(n) + "_layer" for n in ORDER]
+OTHERS = ["Placed", "CompareOp", "ProductOp", "Quantifier", "SumOp"]
+OTHER_MODULES = {"Placed": "names"}
+
+
+def imports_of_declared(words):
+    lines = []
+    for name in ORDER:
+        lines.append(f"use Rattle.query_tree.specs.declared.{MODULE[name]}.{name}.{{{', '.join(w.format(name) for w in words)}}}")
+    for name in OTHERS:
+        lines.append(f"use Rattle.query_tree.specs.declared.{OTHER_MODULES.get(name, 'operator')}.{name}.{{{name}}}")
+    return lines
+
+
+def write_plain():
+    out = [HEAD + "-- Trees as plain values, without where they lie in memory."]
+    out.append("use Rattle.std.specs.Prelude.{ℕ, ℤ, Bool, List, [], ◌∷◌, Option, Some, None, option_map}")
+    out.append("use Rattle.std.specs.declared.alloc.Global.{Global}")
+    out.append("use Rattle.std.specs.declared.boxed.Box.{Box}")
+    out += imports_of_declared(["{0}", "{0}-F", "fold-{0}"])
+    out.append(f"use Rattle.query_tree.specs.declared.{MODULE[ORDER[0]]}.{ORDER[0]}.TheOpen as node")
+    out += ["", "mutual"]
+    for name in ["Expr"] + [n for n in ORDER if n != "Expr"]:
+        out.append(f"  pub data {plain(name)} (V F T : Type 0) : Type 0 where")
+        for variant, fields in VARIANTS[name]:
+            parts = "".join(f"({f} : {plain_field(k)}) → " for f, k in fields)
+            out.append(f"    {constructor(name, variant)} : {parts}{plain(name)} V F T")
+        out.append("")
+        if name in LISTS:
+            out.append(f"  pub data {list_type(name)} (V F T : Type 0) : Type 0 where")
+            out.append(f"    {none_of(name)} : {list_type(name)} V F T")
+            out.append(f"    {more_of(name)} : {plain(name)} V F T → {list_type(name)} V F T → {list_type(name)} V F T")
+            out.append("")
+    out.append("  pub data MaybeTree (V F T : Type 0) : Type 0 where")
+    out.append("    no_tree : MaybeTree V F T")
+    out.append("    one_tree : Tree V F T → MaybeTree V F T")
+    out += ["", "module _ (V F T : Type 0) where"]
+    for name in LISTS:
+        out.append(f"  abbrev pub {list_of(name)} : List ({plain(name)} V F T) → {list_type(name)} V F T")
+        out.append(f"  {list_of(name)} [] = {none_of(name)}")
+        out.append(f"  {list_of(name)} (x ∷ xs) = {more_of(name)} x ({list_of(name)} xs)")
+        out.append("")
+    out.append("  abbrev pub maybe_tree : Option (Box (Tree V F T) Global) → MaybeTree V F T")
+    out.append("  maybe_tree None = no_tree")
+    out.append("  maybe_tree (Some t) = one_tree t.value")
+    for name in ORDER:
+        layer = snake(name) + "_layer"
+        out.append("")
+        out.append(f"  abbrev pub {layer} : {name}-F V F T {CARRIERS} → {plain(name)} V F T")
+        for variant, fields in VARIANTS[name]:
+            if name in ENUMS:
+                pattern = " ".join([f"node.{opened(name, variant)}"] + [f + "'" for f, _ in fields])
+                values = [converted(k, f + "'", True) for f, k in fields]
+                pattern = f"({pattern})" if fields else pattern
+            else:
+                pattern = "x"
+                values = [converted(k, "x." + f, True) for f, k in fields]
+            out.append(f"  {layer} {pattern} = {' '.join([constructor(name, variant)] + [atom(v) for v in values])}")
+    for name in ORDER:
+        out.append("")
+        out.append(f"  unfoldable pub {value_of(name)} : {name} V F T → {plain(name)} V F T")
+        out.append(f"  {value_of(name)} = fold-{name} V F T {CARRIERS} {' '.join(LAYERS)}")
+    out.append("")
+    out.append("  abbrev pub maybe_tree_of : Option (Box (Expr V F T) Global) → MaybeTree V F T")
+    out.append("  maybe_tree_of None = no_tree")
+    out.append("  maybe_tree_of (Some e) = one_tree (tree_of e.value)")
+    (CRATE / "specs/Plain.antt").write_text("\n".join(out) + "\n")
+
+
+def opened(name, variant):
+    """A variant's name where one layer is opened: two types with one variant of a name say whose it is."""
+    once = sum(variant == v for n in ENUMS for v, _ in VARIANTS[n]) == 1
+    return variant if once else f"{name}::{variant}"
+
+
+def is_record(fields):
+    """Whether contracts see the struct as a record: it holds trees by value alone."""
+    return not any(k.startswith(("Vec<", "Box<", "Option<")) and "<V,F,T>" in k for _, k in fields)
+
+
+GENERIC = [f"A{i}" for i in range(len(ORDER))]
+STEPS = [f"step{i}" for i in range(len(ORDER))]
+TREES = " ".join(f"({n} V F T)" for n in ORDER)
+
+
+def write_folds():
+    types, steps = " ".join(GENERIC), " ".join(STEPS)
+    out = [HEAD + "-- A fold at a node that is known, for any steps."]
+    out.append("use Rattle.std.proofs.Common.{◌≡◌, ap, ◌∙◌}")
+    for name in ORDER:
+        more = f", map-{name}, out-{name}, fold_out-{name}" if name in ENUMS else ""
+        out.append(f"use Rattle.query_tree.specs.declared.{MODULE[name]}.{name}.{{{name}, {name}-F, fold-{name}{more}}}")
+    params = " ".join(f"({x} : {n}-F V F T {types} → {a})" for x, n, a in zip(STEPS, ORDER, GENERIC))
+    out += ["", f"module _ (V F T {types} : Type 0) {params} where"]
+    folds = " ".join(f"(fold-{n} V F T {types} {steps})" for n in ORDER)
+    for name in ORDER:
+        if name not in ENUMS:
+            continue
+        word, step = snake(name), STEPS[ORDER.index(name)]
+        mapped = f"{step} (map-{name} V F T {TREES} {types} {folds} "
+        out.append(f"  pub {word}_fold : (k : {name} V F T) (o : {name}-F V F T {TREES}) → out-{name} V F T k ≡ o → fold-{name} V F T {types} {steps} k ≡ {mapped}o)")
+        out.append(f"  {word}_fold k o h = fold_out-{name} V F T {types} {steps} k ∙ ap (λ (x : {name}-F V F T {TREES}). {mapped}x)) h")
+        out.append("")
+    (CRATE / "proofs/Folds.antt").write_text("\n".join(out).rstrip() + "\n")
+
+
+def write_layers():
+    values = " ".join(dict.fromkeys(value_of(n) for n in ORDER))
+    steps = " ".join(f"({x} V F T)" for x in LAYERS)
+    lists = [list_of(n) for n in LISTS]
+    made = [constructor(n, v) for n in ORDER for v, _ in VARIANTS[n]]
+    out = [HEAD + "-- The plain value of a tree, at each kind of node."]
+    out.append("use Rattle.std.proofs.Common.{◌≡◌, ℕ, ℤ, Bool, List, Option, Some, None, option_map, map}")
+    out.append("use Rattle.std.specs.declared.alloc.Global.{Global}")
+    out.append("use Rattle.std.specs.declared.boxed.Box.{Box}")
+    out.append("use Rattle.std.specs.Prelude.{Vec}")
+    for name in ORDER:
+        words = [name] if name in ENUMS else [name, f"roll-{name}", f"fold_out-{name}", f"fold-roll-{name}"]
+        if name not in ENUMS and not is_record(VARIANTS[name][0][1]):
+            words.append(f"out-{name}")
+        out.append(f"use Rattle.query_tree.specs.declared.{MODULE[name]}.{name}.{{{', '.join(words)}}}")
+        if name in ENUMS:
+            out.append(f"use Rattle.query_tree.specs.declared.{MODULE[name]}.{name}.TheVariants as {snake(name)}")
+    for name in OTHERS:
+        out.append(f"use Rattle.query_tree.specs.declared.{OTHER_MODULES.get(name, 'operator')}.{name}.{{{name}}}")
+    plains = [plain(n) for n in ORDER]
+    out.append(f"use Rattle.query_tree.specs.Plain.{{{', '.join(plains + lists + made + LAYERS + values.split() + ['maybe_tree_of'])}}}")
+    out.append(f"use Rattle.query_tree.proofs.Folds.{{{', '.join(snake(n) + '_fold' for n in ORDER if n in ENUMS)}}}")
+    out += ["", "module _ (V F T : Type 0) where"]
+    rules = []
+
+    def lemma(name, arguments, left, right, proof):
+        rules.append(name)
+        premises = "".join(f"({x} : {t}) " for x, t in arguments)
+        out.append(f"  pub {name} : {premises + '→ ' if premises else ''}{left} ≡ {right}")
+        out.append(f"  unfolding {values}")
+        # a tree that may be absent is known in each case
+        known = [x for x, t in arguments if t == "Option (Box (Expr V F T) Global)"]
+        for case in ["None", "(Some e)"] if known else [""]:
+            words = [case if x in known else x for x, _ in arguments]
+            body = proof
+            for x in known:
+                body = re.sub(rf"(?<!\w){x}", case, body)
+            out.append(f"  {' '.join([name] + words)} = {body}")
+        out.append("")
+
+    for name in ORDER:
+        of, word = value_of(name), snake(name)
+        for variant, fields in VARIANTS[name]:
+            made = constructor(name, variant)
+            if name in ENUMS:
+                arguments = [(f + "'", declared(k)) for f, k in fields]
+                node = " ".join([f"{word}.{variant}"] + [x for x, _ in arguments])
+                right = " ".join([made] + [atom(converted(k, f + "'", False)) for f, k in fields])
+                outs = " ".join([f"{word}.outs-{variant}"] + [x for x, _ in arguments])
+                lemma(f"{of}-{variant}", arguments, f"{of} V F T {atom(node)}", right, f"{word}_fold V F T {CARRIERS} {steps} {atom(node)} _ {atom(outs)}")
+            else:
+                whole = "x" if is_record(fields) else f"(out-{name} V F T x)"
+                right = " ".join([made] + [atom(converted(k, f"{whole}.{f}", False)) for f, k in fields])
+                lemma(f"{of}-out", [("x", f"{name} V F T")], f"{of} V F T x", right, f"fold_out-{name} V F T {CARRIERS} {steps} x")
+                arguments = [(f + "'", declared(k)) for f, k in fields]
+                node = "record { " + "; ".join(f"{f} = {f}'" for f, _ in fields) + " }"
+                right = " ".join([made] + [atom(converted(k, f + "'", False)) for f, k in fields])
+                lemma(f"{of}-made", arguments, f"{of} V F T (roll-{name} V F T ({node}))", right, f"fold-roll-{name} V F T {CARRIERS} {steps} ({node})")
+    out.append(f"pub ruleset layers = ({', '.join(rules)})")
+    (CRATE / "proofs/Layers.antt").write_text("\n".join(out) + "\n")
+
+
+def main():
+    write_plain()
+    write_folds()
+    write_layers()
+
+
+main()
