@@ -31,7 +31,7 @@ use Rattle.query_tree.specs.declared.operator.CompareOp.{CompareOp}
 use Rattle.query_tree.specs.declared.operator.ProductOp.{ProductOp}
 use Rattle.query_tree.specs.declared.operator.Quantifier.{Quantifier}
 use Rattle.query_tree.specs.declared.operator.SumOp.{SumOp}
-use Rattle.query_tree.specs.Plain.{PlainClause, PlainGroupVar, Form, PlainPairKey, PlainLookup, PlainStep, PlainOrderKey, Tree, PlainBind, PlainCase, PlainCatch, PlainFactor, PlainOperand, PlainPair, PlainTerm, PlainTypeCase, PlainClauses, clauses_of, PlainGroupVars, group_vars_of, PlainSteps, steps_of, PlainOrderKeys, order_keys_of, Trees, trees_of, PlainBinds, binds_of, PlainCases, cases_of, PlainCatches, catches_of, PlainFactors, factors_of, PlainOperands, operands_of, PlainPairs, pairs_of, PlainTerms, terms_of, PlainTypeCases, type_cases_of, for_clause, let_clause, keep_clause, group_clause, order_clause, count_clause, stream_group_var, computed_group_var, comma_form, flwor_form, quant_form, switch_form, typeswitch_form, if_form, try_form, or_form, and_form, not_form, compare_form, concat_form, range_form, sum_form, product_form, instance_form, treat_form, castable_form, cast_form, sign_form, map_form, postfix_form, int_form, dec_form, text_form, true_form, false_form, null_form, var_form, context_form, paren_form, object_form, merge_form, array_form, call_form, name_pair_key, computed_pair_key, name_lookup, text_lookup, var_lookup, context_lookup, computed_lookup, members_step, member_step, filter_step, field_step, order_key_node, tree_node, bind_node, case_node, catch_node, factor_node, operand_node, pair_node, term_node, type_case_node, clause_layer, group_var_layer, kind_layer, pair_key_layer, lookup_layer, step_layer, order_key_layer, expr_layer, bind_layer, case_layer, catch_layer, factor_layer, operand_layer, pair_layer, term_layer, type_case_layer, clause_of, group_var_of, form_of, pair_key_of, lookup_of, step_of, order_key_of, tree_of, bind_of, case_of, catch_of, factor_of, operand_of, pair_of, term_of, type_case_of, maybe_tree_of}
+use Rattle.query_tree.specs.Plain.{PlainClause, PlainGroupVar, Form, PlainPairKey, PlainLookup, PlainStep, PlainOrderKey, Tree, PlainBind, PlainCase, PlainCatch, PlainFactor, PlainOperand, PlainPair, PlainTerm, PlainTypeCase, clauses_of, group_vars_of, steps_of, order_keys_of, trees_of, binds_of, cases_of, catches_of, factors_of, operands_of, pairs_of, terms_of, type_cases_of, for_clause, let_clause, keep_clause, group_clause, order_clause, count_clause, stream_group_var, computed_group_var, comma_form, flwor_form, quant_form, switch_form, typeswitch_form, if_form, try_form, or_form, and_form, not_form, compare_form, concat_form, range_form, sum_form, product_form, instance_form, treat_form, castable_form, cast_form, sign_form, map_form, postfix_form, int_form, dec_form, text_form, true_form, false_form, null_form, var_form, context_form, paren_form, object_form, merge_form, array_form, call_form, name_pair_key, computed_pair_key, name_lookup, text_lookup, var_lookup, context_lookup, computed_lookup, members_step, member_step, filter_step, field_step, order_key_node, tree_node, bind_node, case_node, catch_node, factor_node, operand_node, pair_node, term_node, type_case_node, clause_layer, group_var_layer, kind_layer, pair_key_layer, lookup_layer, step_layer, order_key_layer, expr_layer, bind_layer, case_layer, catch_layer, factor_layer, operand_layer, pair_layer, term_layer, type_case_layer, clause_of, group_var_of, form_of, pair_key_of, lookup_of, step_of, order_key_of, tree_of, bind_of, case_of, catch_of, factor_of, operand_of, pair_of, term_of, type_case_of, maybe_tree_of}
 use Rattle.query_tree.proofs.Folds.{clause_fold, group_var_fold, kind_fold, pair_key_fold, lookup_fold, step_fold}
 
 module _ (V F T : Type 0) where

@@ -1,5 +1,5 @@
 -- Modules as plain values.
-use Rattle.std.specs.Prelude.{ℕ, List, Option, map}
+use Rattle.std.specs.Prelude.{List, Option, map}
 use Rattle.query_tree.specs.declared.module.Module.{Module}
 use Rattle.query_tree.specs.declared.module.Variable.{Variable}
 use Rattle.query_tree.specs.declared.module.Function.{Function}

@@ -1,6 +1,6 @@
 -- Written by tools/plain_trees.py from the types of src/. Change those, and run it again.
 -- Trees as plain values, without where they lie in memory.
-use Rattle.std.specs.Prelude.{ℕ, ℤ, Bool, List, [], ◌∷◌, Option, Some, None, option_map, map}
+use Rattle.std.specs.Prelude.{ℕ, ℤ, Bool, List, [], ◌∷◌, Option, Some, None, option_map}
 use Rattle.std.specs.declared.alloc.Global.{Global}
 use Rattle.std.specs.declared.boxed.Box.{Box}
 use Rattle.query_tree.specs.declared.clause.Clause.{Clause, Clause-F, fold-Clause}

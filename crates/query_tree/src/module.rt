@@ -1,6 +1,8 @@
 use crate::{Expr, Placed};
 
 /// A query: its declared variables and its declared functions, each in text order, and its body.
+/// Which of a variable and a function stands first has no meaning: a variable sees the variables
+/// before it and no declared function, and a function sees all of both. Their places still tell it.
 #[derive(Drop)]
 pub struct Module<V, F, T> {
     pub variables: Vec<Variable<V, F, T>>,

@@ -1,4 +1,4 @@
-use crate::{Expr, Kind, NamedExpr, Placed, Query, SumOp, Term, TypeName};
+use crate::{Clause, Expr, Kind, NamedExpr, Placed, Query, SumOp, Term, TypeName};
 use item_tree::{Str, Whole};
 use seq_types::Times;
 use std::alloc::Global;
@@ -86,6 +86,127 @@ fn drops_long_chains(rt: HostRuntime) -> Result<(), Fail> {
             _ => assert!(rt; false),
         }
     }
+    Ok(())
+}
+
+// `for $x in json-lines("a") return $x`, with a name in place of `x`.
+fn each_line(alloc: Global, name: &str) -> Result<NamedExpr, Fail> {
+    let input = Expr {
+        place: 21,
+        kind: Kind::Text {
+            value: Str::of(alloc, "a")?,
+        },
+    };
+    let clause = Clause::For {
+        variable: Placed {
+            place: 4,
+            name: Str::of(alloc, name)?,
+        },
+        of: None,
+        allowing_empty: false,
+        at: None,
+        source: Expr {
+            place: 10,
+            kind: Kind::Call {
+                function: Str::of(alloc, "json-lines")?,
+                arguments: vec![in alloc; input]?,
+            },
+        },
+    };
+    let variable = Str::of(alloc, name)?;
+    let result = Expr {
+        place: 33,
+        kind: Kind::Var { variable },
+    };
+    Ok(Expr {
+        place: 0,
+        kind: Kind::Flwor {
+            clauses: vec![in alloc; clause]?,
+            place: 26,
+            result: Box::new(alloc, result)?,
+        },
+    })
+}
+
+// Whether both trees are such a FLWOR with the same variable.
+fn same_loop(a: &NamedExpr, b: &NamedExpr) -> bool {
+    match (&a.kind, &b.kind) {
+        (
+            Kind::Flwor {
+                clauses: bound,
+                place: at,
+                result: read,
+            },
+            Kind::Flwor {
+                clauses: other_bound,
+                place: other_at,
+                result: other_read,
+            },
+        ) => {
+            at == other_at
+                && same_variable(read, other_read)
+                && bound.len() == other_bound.len()
+                && bound
+                    .iter()
+                    .zip(other_bound.iter())
+                    .all(|(c, other)| same_clause(c, other))
+        }
+        _ => false,
+    }
+}
+
+fn same_variable(a: &NamedExpr, b: &NamedExpr) -> bool {
+    match (&a.kind, &b.kind) {
+        (Kind::Var { variable: x }, Kind::Var { variable: y }) => a.place == b.place && x == y,
+        _ => false,
+    }
+}
+
+fn same_clause(a: &Clause<Str, Str, TypeName>, b: &Clause<Str, Str, TypeName>) -> bool {
+    match (a, b) {
+        (
+            Clause::For {
+                variable: x,
+                of: None,
+                allowing_empty: false,
+                at: None,
+                source: s,
+            },
+            Clause::For {
+                variable: y,
+                of: None,
+                allowing_empty: false,
+                at: None,
+                source: t,
+            },
+        ) => x.place == y.place && x.name == y.name && same_call(s, t),
+        _ => false,
+    }
+}
+
+fn same_call(a: &NamedExpr, b: &NamedExpr) -> bool {
+    match (&a.kind, &b.kind) {
+        (
+            Kind::Call {
+                function: f,
+                arguments: xs,
+            },
+            Kind::Call {
+                function: g,
+                arguments: ys,
+            },
+        ) => a.place == b.place && f == g && xs.len() == ys.len(),
+        _ => false,
+    }
+}
+
+#[test]
+fn compares_trees(rt: HostRuntime) -> Result<(), Fail> {
+    let alloc = rt.alloc();
+    let x = each_line(alloc, "x")?;
+    assert!(rt; same_loop(&x, &each_line(alloc, "x")?));
+    assert!(rt; !same_loop(&x, &each_line(alloc, "y")?));
+    assert!(rt; !same_loop(&x, &number(0, 1)));
     Ok(())
 }
 
