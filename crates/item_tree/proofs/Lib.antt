@@ -9,5 +9,7 @@ pub mod AtomTexts
 pub mod AtomOrder
 pub mod Members
 pub mod DeepEquality
+pub mod AsciiTexts
+pub mod FunctionNames
 mod StringRows
 mod TextRows

@@ -1,7 +1,9 @@
--- Laws of comparisons and of depth.
+-- Laws of comparisons, of depth and of functions.
 use Rattle.std.specs.Prelude.{◌≡◌, ◌≢◌, ℕ, ◌+◌, ◌≤◌, max, Bool, true, false, Option, Some, None, option_map, List, [], ◌∷◌, map, IsSome, if◌then◌else◌}
 use Rattle.std.specs.Ordering.{ordering_reverse}
 use Rattle.std.specs.declared.cmp.Ordering.TheVariants.{Less, Equal}
+use Rattle.item_tree.specs.declared.functions.FnId.{FnId}
+use Rattle.item_tree.specs.Functions.{name_of, takes_arity, function_named}
 use Rattle.item_tree.specs.Datum.{Datum, null, boolean, integer, decimal, text, array, object, values, array_of_list, object_of_pairs, depth, Sound, AllSound, IsAtomic, is_null}
 use Rattle.item_tree.specs.Compare.{atom, compare_atoms, is_equal, same_keys, equal, equal_lists}
 
@@ -63,3 +65,9 @@ pub record DepthsAreKept : Type 0 where
   pub of_array : (vs : List Datum) → depth (array_of_list vs) ≡ greatest (map depth vs) + 1
   pub of_object : (ps : List (List ℕ × Datum)) → depth (object_of_pairs ps) ≡ greatest (map (λ p. depth p.1) ps) + 1
   pub bounded : (v : Datum) → Sound v → depth v ≤ 128
+
+-- what is found bears the name and takes so many arguments, each function is found so, and no two are called alike
+pub record FunctionsAreFound : Type 0 where
+  pub named : (name : List ℕ) (count : ℕ) (id : FnId) → function_named name count ≡ Some id → (name_of id ≡ name) × (takes_arity id count ≡ true)
+  pub found : (id : FnId) (count : ℕ) → takes_arity id count ≡ true → function_named (name_of id) count ≡ Some id
+  pub apart : (id other : FnId) (count : ℕ) → name_of id ≡ name_of other → takes_arity id count ≡ true → takes_arity other count ≡ true → id ≡ other

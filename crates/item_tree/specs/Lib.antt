@@ -7,6 +7,7 @@ pub mod Lookup
 pub mod Made
 pub mod Compare
 pub mod Truth
+pub mod Functions
 pub mod Laws
 pub mod ItemText
 pub mod JsonString

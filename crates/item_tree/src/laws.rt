@@ -1,7 +1,7 @@
 //! Laws of the definitions that contracts cite. Each holds of all values: a call brings it to a
 //! proof, and does nothing when it runs.
 
-ghost use Rattle.item_tree.specs.Laws.{KeysAreEquivalent, ItemsAreEquivalent, SequencesAreEquivalent, AtomicsCompare, AtomicsAreOrdered, DepthsAreKept};
+ghost use Rattle.item_tree.specs.Laws.{KeysAreEquivalent, ItemsAreEquivalent, SequencesAreEquivalent, AtomicsCompare, AtomicsAreOrdered, DepthsAreKept, FunctionsAreFound};
 
 /// `same_key` is an equivalence on keys.
 pub fn keys_are_equivalent()
@@ -31,4 +31,9 @@ pub fn atomics_compare()
 /// How deep arrays and objects are.
 pub fn depths_are_kept()
     ensures { DepthsAreKept }
+{}
+
+/// Each function is found by its name and each number of arguments that it takes, and by no other.
+pub fn functions_are_found()
+    ensures { FunctionsAreFound }
 {}
