@@ -2,4 +2,20 @@
 #![tactic(auto)]
 
 #[cfg(test)]
+mod boolean_values;
+#[cfg(test)]
+mod comparisons;
+#[cfg(test)]
+mod deep_equality;
+#[cfg(test)]
+mod depths;
+#[cfg(test)]
 mod functions;
+#[cfg(test)]
+mod made;
+#[cfg(test)]
+mod objects;
+#[cfg(test)]
+mod shared;
+#[cfg(test)]
+mod texts;

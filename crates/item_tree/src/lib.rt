@@ -21,6 +21,3 @@ pub use item::{Item, Items, Pairs, array_of, object_of, object_of_distinct};
 pub use number::{Units, Whole};
 pub use text::Str;
 pub use truth::ebv;
-
-#[cfg(test)]
-mod tests;
