@@ -25,7 +25,8 @@ fn keeps_the_depth(rt: HostRuntime) -> Result<(), Fail> {
 #[test]
 fn takes_distinct_keys(rt: HostRuntime) -> Result<(), Fail> {
     let alloc = rt.alloc();
-    assert_eq!(rt; object_of_distinct(alloc, Vec::new(alloc))?.depth(), 1);
+    let pairs = vec![in alloc; (Str::of(alloc, "k")?, nested(alloc, 127)?)]?;
+    assert_eq!(rt; object_of_distinct(alloc, pairs)?.depth(), 128);
     let pairs = vec![in alloc; (Str::of(alloc, "k")?, nested(alloc, 128)?)]?;
     assert!(rt; matches!(object_of_distinct(alloc, pairs), Err(MakeFault::TooDeep)));
     Ok(())
