@@ -10,6 +10,9 @@ use crate::frame::{Frame, add_in_place, push_frame, set_key_in_place};
 use item_tree::{Item, NoMemory, Str};
 use std::alloc::Global;
 
+/// So many containers may be open at once.
+const MOST_OPEN: usize = 128;
+
 #[derive(Clone, Copy, Debug)]
 pub enum Trouble {
     NumberOut,
@@ -63,7 +66,7 @@ impl Build {
         if !self.is_open() {
             return Ok(());
         }
-        if self.frames.len() < 128 {
+        if self.frames.len() < MOST_OPEN {
             push_frame(&mut self.frames, frame)?;
         } else {
             self.progress = Progress::Troubled(Trouble::TooDeep);

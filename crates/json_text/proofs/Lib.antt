@@ -16,6 +16,7 @@ pub mod Utf8Lemmas
 pub mod LoopLemmas
 pub mod NumeralTexts
 pub mod SpellLemmas
+pub mod EscapeLemmas
 pub mod DecimalDigits
 pub mod PrintedNumbers
 pub mod PrintedStrings

@@ -3,6 +3,7 @@ pub mod Json
 pub mod Meaning
 pub mod Line
 pub mod Scan
+pub mod Escapes
 pub mod Machine
 pub mod Build
 pub mod Fits

@@ -1,11 +1,10 @@
 -- Where the string at the front of a text ends.
-use Rattle.std.proofs.Common.{◌≡◌, inl, inr, ℕ, ◌-◌, ◌<◌, ◌≤◌, List, ◌∷◌, [], ◌++◌, length, length-append, take, drop, slice_index_or, true, false, ◌==◌, sym, ◌∙◌, ap, subst, refl, arith, Some, None, append_assoc}
-use Rattle.std.proofs.Math.Seq.{take-length}
+use Rattle.std.proofs.Common.{◌≡◌, inl, inr, ℕ, ◌-◌, ◌<◌, ◌≤◌, List, ◌∷◌, [], ◌++◌, length, length-append, take, true, false, ◌==◌, sym, ◌∙◌, ap, subst, refl, arith, Some, None, append_assoc}
 use Rattle.std.proofs.lemmas.List.{take_at}
 use Rattle.std.proofs.lemmas.Bool.{and_from, cases_Bool, eqb-true, cond-false}
 use Rattle.item_tree.specs.JsonString.{Piece, byte, unit, IsPiece, ArePieces, is_raw}
 use Rattle.json_text.specs.Scan.{Part, plain, pieces_at, spell, string_at, after_bytes}
-use Rattle.json_text.proofs.SpellLemmas.{stretch_spelled, quote_spelled, control_spelled, cut_escape_spelled, end_spelled}
+use Rattle.json_text.proofs.SpellLemmas.{stretch_spelled, quote_spelled, control_spelled, end_spelled}
 use Rattle.json_text.proofs.NumeralLemmas.{PartIs}
 use Rattle.json_text.proofs.StringLemmas.{pieces_taken, pieces_are}
 use Rattle.query_lexer.specs.Scan.{behind, closed_at, size_before, string_length}
@@ -104,10 +103,6 @@ no_size l rest same none closed = size_same l (string_at l) None (sym same ∙ a
 
 -- ---- what stands at the front of the inside of a string
 
-pub front_is : (l : List ℕ) → 0 < length l → l ≡ slice_index_or l 0 0 ∷ take (length l - 1) (drop 1 l)
-front_is [] h = absurd (omega arith)
-front_is (b ∷ l) h = let n : length (b ∷ l) - 1 ≡ length l = omega arith in ap (λ t. b ∷ t) (sym (ap (λ k. take k l) n ∙ take-length l))
-
 pub raw_begins : (b : ℕ) (l : List ℕ) → is_raw b ≡ true → string_at (b ∷ l) ≡ after_bytes (b ∷ []) (string_at l)
 raw_begins b l h = stretch_spelled (b ∷ []) l (and_from (is_raw b) true h refl)
 
@@ -116,11 +111,6 @@ none_begins b l slash raw = elim (cases_Bool (b == 34)) [
   | inl e ↦ subst (λ c. string_at (c ∷ l) ≡ closed_at (c ∷ l)) (sym (eqb-true b 34 e)) (quote_spelled l)
   | inr e ↦ control_spelled b l raw e slash ∙ sym (cond-false (b == 34) (Some ([], l)) None e)
 ]
-
--- of an empty text
-pub no_escape : (l : List ℕ) → length l < 1 → string_at (92 ∷ l) ≡ None
-no_escape [] h = cut_escape_spelled
-no_escape (b ∷ l) h = absurd (omega arith)
 
 pub no_character : (l : List ℕ) → length l < 1 → string_at l ≡ closed_at l
 no_character [] h = end_spelled

@@ -1,11 +1,11 @@
 -- How the longest token at the front of a text is found. Nothing here is part of what a token is: `tokens` says that it is the same.
-use Rattle.std.specs.Prelude.{◌≡◌, ◌<◌, option_map, ℕ, ◌+◌, ◌-◌, Bool, true, false, ◌||◌, ◌&&◌, not, ◌==◌, nat_lt, if◌then◌else◌, List, [], ◌∷◌, take, drop, length, Option, Some, None, codes}
-use Rattle.std.specs.Char.{is_ascii_digit, IsScalar, encode_utf8}
+use Rattle.std.specs.Prelude.{option_map, ℕ, ◌+◌, ◌-◌, Bool, true, false, ◌||◌, ◌&&◌, not, ◌==◌, nat_lt, if◌then◌else◌, List, [], ◌∷◌, take, drop, length, Option, Some, None, codes}
+use Rattle.std.specs.Char.{is_ascii_digit}
 use Rattle.std.specs.List.{prefix_len}
 use Rattle.num_fixed.specs.Numeral.{none, Numeral}
 use Rattle.item_tree.specs.declared.code.Code.TheVariants.{XPST0003, PJST0004}
 use Rattle.json_text.specs.Build.{number_said, in_bounds}
-use Rattle.json_text.specs.Scan.{Part, string_at, after_bytes}
+use Rattle.json_text.specs.Scan.{Part, string_at}
 use Rattle.query_lexer.specs.Bytes.{is_letter, is_name_byte, is_blank, is_sign, is_mark, is_double_mark, next_passes}
 use Rattle.query_lexer.specs.Comments.{begins_comment, comment_rest}
 use Rattle.query_lexer.specs.Lexes.{runs_on}
@@ -13,8 +13,6 @@ use Rattle.query_lexer.specs.declared.token.TokenKind.{TokenKind}
 use Rattle.query_lexer.specs.declared.token.TokenKind.TheVariants as k
 use Rattle.query_lexer.specs.declared.steps.Step.{Step}
 use Rattle.query_lexer.specs.declared.steps.Step.TheVariants as step
-use Rattle.query_lexer.specs.declared.strings.Spelled.{Spelled}
-use Rattle.query_lexer.specs.declared.strings.Spelled.TheVariants as s
 
 -- ---- names and variables
 
@@ -88,25 +86,10 @@ is_out _ w = false
 
 -- ---- strings
 
--- the bytes of what is spelled
-abbrev pub bytes_of : Spelled → List ℕ
-bytes_of (s.Byte b) = b ∷ []
-bytes_of (s.Char c) = encode_utf8 c
-
-abbrev pub IsSound : Spelled → Type 0
-IsSound (s.Byte b) = Unit {0}
-IsSound (s.Char c) = IsScalar c
-
 -- the end of a string, where no character is left
 abbrev pub closed_at : List ℕ → Part (List ℕ)
 closed_at [] = None
 closed_at (b ∷ r) = if b == 34 then Some ([], r) else None
-
--- what stands at the front of the inside of a string l, where r is behind it
-pub record Begins (l : List ℕ) (s : Spelled) (r : List ℕ) : Type 0 where
-  pub same : string_at l ≡ after_bytes (bytes_of s) (string_at r)
-  pub shorter : length r < length l
-  pub sound : IsSound s
 
 abbrev pub behind : Part (List ℕ) → Option (List ℕ)
 behind p = option_map (λ q. q.1) p

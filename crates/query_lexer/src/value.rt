@@ -1,41 +1,14 @@
-ghost use Rattle.std.specs.Prelude.{◌≡◌, ◌++◌, [], OnOk, IfOk, IfSome};
-ghost use Rattle.std.specs.Char.{IsScalar, encode_utf8};
+ghost use Rattle.std.specs.Prelude.{◌≡◌, [], IfOk, IfSome};
 ghost use Rattle.item_tree.specs.JsonString.{IsString};
 ghost use Rattle.json_text.specs.Scan.{string_at};
 ghost use Rattle.query_lexer.specs.Lexes.{IsTokenOf, spelling};
-ghost use Rattle.query_lexer.specs.Scan.{bytes_of, IsSound};
 ghost use Rattle.query_lexer.specs.declared.token.TokenKind.TheVariants.{Text};
 
 use crate::Token;
-use crate::strings::{Spelled, character_at};
+use crate::strings::character_at;
 use item_tree::{NoMemory, Str};
+use json_text::push_spelled;
 use std::alloc::{AllocError, Global};
-
-/// Appends a character.
-fn push_char(out: &mut Vec<u8>, code: u32) -> Result<(), AllocError>
-    requires { IsScalar code }
-    ensures { OnOk result (out.new.items ≡ out.old.items ++ encode_utf8 code) }
-{
-    if let Some(c) = char::from_u32(code) {
-        let mut room = [0u8; 4];
-        let text = c.encode_utf8(&mut room);
-        out.extend_from_slice(text.as_bytes())?;
-    }
-    Ok(())
-}
-
-fn push_spelled(out: &mut Vec<u8>, spelled: Spelled) -> Result<(), AllocError>
-    requires { IsSound spelled }
-    ensures { OnOk result (out.new.items ≡ out.old.items ++ bytes_of spelled) }
-{
-    match spelled {
-        Spelled::Byte(b) => {
-            out.push(b)?;
-            Ok(())
-        }
-        Spelled::Char(code) => push_char(out, code),
-    }
-}
 
 /// What a string spells, from the bytes behind its opening quote.
 fn spelled_bytes(alloc: Global, text: &[u8]) -> Result<Vec<u8>, AllocError>

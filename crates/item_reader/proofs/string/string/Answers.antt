@@ -1,16 +1,16 @@
-use Rattle.std.proofs.Common.{◌≡◌, None, sym, ◌∙◌, ap, arith}
+use Rattle.std.proofs.Common.{◌≡◌, ◌∷◌, None, sym, ◌∙◌, ap, arith}
 use Rattle.std.proofs.lemmas.List.Sums.{prefix_len-le-length}
 use Rattle.item_tree.specs.JsonString.{is_raw}
-use Rattle.json_text.specs.Scan.{plain, pieces_at, after_backslash}
+use Rattle.json_text.specs.Scan.{string_at, after_bytes}
+use Rattle.json_text.proofs.SpellLemmas.{after_none}
 use Rattle.item_reader.specs.Tokens.{begins}
-use Rattle.item_reader.specs.Strings.{contents, behind}
-use Rattle.item_reader.proofs.StringSteps.{stretch, stretch_ends, cut_off, closed, refused, escaped, behind_nothing}
+use Rattle.item_reader.proofs.StringSteps.{stretch, stretch_ends, cut_off, closed, refused, escaped}
 use Rattle.std.specs.List.{prefix_len}
 use Rattle.std.specs.Prelude.{take, drop}
 use Rattle.item_reader.proofs.string.string.Goals as goal
 
 pub stretches-init : goal.stretches-init
-stretches-init c = ap (λ b. behind b (contents (pieces_at plain c.args.line.now))) c.new-bytes.ensures.items ∙ behind_nothing (contents (pieces_at plain c.args.line.now))
+stretches-init c = ap (λ b. after_bytes b (string_at c.args.line.now)) c.new-bytes.ensures.items ∙ after_none (string_at c.args.line.now)
 
 pub split_at-requires : goal.split_at-requires
 split_at-requires c = omega (arith, prefix_len-le-length is_raw c.stretches.left.now)
@@ -46,8 +46,8 @@ returns-in_default-2 c =
     let back : c.split_at.result.1.now ≡ drop (prefix_len is_raw left) left = c.split_at.ensures.back ∙ ap (λ n. drop n left) c.raw_len.ensures in
     let s = stretch c.stretches.bytes.items left c.append.new.bytes.items c.split_at.result.0.now c.split_at.result.1.now _ c.in_ok-append.ensures front back c.stretches.invariant in
     let e = escaped c.append.new.bytes.items c.split_at.result.1.now _ c.in-Some.mark c.in-Some.rest.now s (sym c.in-Some.ensures) c.if-mark-ne92.false in
-    let none : contents (pieces_at after_backslash c.in-Some.rest.now) ≡ None = rw c.in_default-2.is at c.in_ok-after.ensures.value in
-    sym (ap (behind c.append.new.bytes.items) none) ∙ e
+    let none : string_at (92 ∷ c.in-Some.rest.now) ≡ None = rw c.in_default-2.is at c.in_ok-after.ensures.value in
+    sym (ap (after_bytes c.append.new.bytes.items) none) ∙ e
 
 pub stretches-preserved : goal.stretches-preserved
 stretches-preserved c =

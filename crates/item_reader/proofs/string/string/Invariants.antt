@@ -1,10 +1,9 @@
 use Rattle.std.proofs.Common.{◌≡◌, length}
-use Rattle.json_text.specs.Scan.{plain, pieces_at}
-use Rattle.item_reader.specs.Strings.{contents, behind}
+use Rattle.json_text.specs.Scan.{string_at, after_bytes}
 use Rattle.item_reader.proofs.string.string.Given as goal
 
 abbrev pub invariant-stretches : goal.invariant-stretches
-invariant-stretches l = behind l.bytes.items (contents (pieces_at plain l.left)) ≡ contents (pieces_at plain l.line)
+invariant-stretches l = after_bytes l.bytes.items (string_at l.left) ≡ string_at l.line
 
 abbrev pub decreases-stretches : goal.decreases-stretches
 decreases-stretches l = length l.left

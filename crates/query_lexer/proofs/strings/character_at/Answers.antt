@@ -1,7 +1,9 @@
 use Rattle.std.proofs.Common.{◌≡◌, sym, subst, IfSome, IfNone}
 use Rattle.json_text.specs.Scan.{string_at}
-use Rattle.query_lexer.specs.Scan.{closed_at, Begins}
-use Rattle.query_lexer.proofs.StringLemmas.{front_is, no_character}
+use Rattle.json_text.specs.Escapes.{Begins}
+use Rattle.json_text.proofs.EscapeLemmas.{front_is}
+use Rattle.query_lexer.specs.Scan.{closed_at}
+use Rattle.query_lexer.proofs.StringLemmas.{no_character}
 use Rattle.query_lexer.proofs.strings.character_at.Goals as goal
 
 pub returns-in-len1-up : goal.returns-in-len1-up

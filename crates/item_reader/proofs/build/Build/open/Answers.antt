@@ -9,13 +9,13 @@ pub returns-in_ok-push_frame : goal.returns-in_ok-push_frame
 returns-in_ok-push_frame c =
     let s = c.args.self.now in let o = sym c.if-not-is_open.ensures in
     let e : frames_of c.push_frame.new.frames.items ≡ frame_of c.args.frame ∷ frames_of s.frames.items = ap frames_of c.in_ok-push_frame.ensures ∙ pushed s.frames.items c.args.frame in
-    let j = frames_length s.frames.items in let k = s.frames.ok.0 in let t = c.if-len-lt128.true in let u = c.len.ensures in
+    let j = frames_length s.frames.items in let k = s.frames.ok.0 in let t = c.if-len-lt-MOST_OPEN.true in let u = c.len.ensures in
     let few : length (frames_of s.frames.items) < 128 = omega arith in
     opened s.progress (frames_of s.frames.items) (b.push_frame (frame_of c.args.frame)) _ o (still_open s.progress (frames_of c.push_frame.new.frames.items) o ∙ frame_pushed (frames_of s.frames.items) _ (frame_of c.args.frame) e few)
 
-pub returns-else-len-lt128 : goal.returns-else-len-lt128
-returns-else-len-lt128 c =
+pub returns-else-len-lt-MOST_OPEN : goal.returns-else-len-lt-MOST_OPEN
+returns-else-len-lt-MOST_OPEN c =
     let s = c.args.self.now in let o = sym c.if-not-is_open.ensures in
-    let j = frames_length s.frames.items in let k = s.frames.ok.0 in let t = c.if-len-lt128.false in let u = c.len.ensures in
+    let j = frames_length s.frames.items in let k = s.frames.ok.0 in let t = c.if-len-lt-MOST_OPEN.false in let u = c.len.ensures in
     let many : 128 ≤ length (frames_of s.frames.items) = omega arith in
     opened s.progress (frames_of s.frames.items) (b.push_frame (frame_of c.args.frame)) _ o (frame_refused (frames_of s.frames.items) (frame_of c.args.frame) many)

@@ -1,8 +1,8 @@
 use Rattle.std.proofs.Common.{◌≡◌, ◌∷◌, None, sym, subst, IfSome, IfNone}
 use Rattle.json_text.specs.Scan.{string_at}
-use Rattle.query_lexer.specs.Scan.{Begins}
-use Rattle.query_lexer.proofs.StringLemmas.{front_is, no_escape}
-use Rattle.query_lexer.proofs.strings.escape_at.Goals as goal
+use Rattle.json_text.specs.Escapes.{Begins}
+use Rattle.json_text.proofs.EscapeLemmas.{front_is, no_escape}
+use Rattle.json_text.proofs.escapes.escape_at.Goals as goal
 
 pub returns-in-len1-up : goal.returns-in-len1-up
 returns-in-len1-up c =

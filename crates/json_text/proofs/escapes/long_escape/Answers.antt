@@ -1,6 +1,6 @@
 use Rattle.std.proofs.Common.{arith}
 use Rattle.json_text.proofs.SpellLemmas.{no_unit_spelled}
-use Rattle.query_lexer.proofs.strings.long_escape.Goals as goal
+use Rattle.json_text.proofs.escapes.long_escape.Goals as goal
 
 pub returns-in-Some-clause-some : goal.returns-in-Some-clause-some
 returns-in-Some-clause-some c = record {

@@ -1,7 +1,7 @@
 use Rattle.std.proofs.Common.{sym, ◌∙◌, ap}
 use Rattle.json_text.specs.Scan.{string_at, after_bytes}
 use Rattle.json_text.proofs.SpellLemmas.{lone_spelled, pair_spelled}
-use Rattle.query_lexer.proofs.strings.unit_character.Goals as goal
+use Rattle.json_text.proofs.escapes.unit_character.Goals as goal
 
 pub returns-in-Some-clause-value : goal.returns-in-Some-clause-value
 returns-in-Some-clause-value c = λ digits e.

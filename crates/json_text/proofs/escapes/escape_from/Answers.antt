@@ -1,7 +1,7 @@
 use Rattle.std.proofs.Common.{sym, arith}
 use Rattle.std.proofs.lemmas.Bool.{ne_eqb}
 use Rattle.json_text.proofs.SpellLemmas.{short_spelled, no_escape_spelled}
-use Rattle.query_lexer.proofs.strings.escape_from.Goals as goal
+use Rattle.json_text.proofs.escapes.escape_from.Goals as goal
 
 pub returns-in-Some-clause-some : goal.returns-in-Some-clause-some
 returns-in-Some-clause-some c = record {
