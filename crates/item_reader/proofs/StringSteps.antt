@@ -9,7 +9,7 @@ use Rattle.std.proofs.lemmas.Bool.{cond_both, and_from, ne_eqb}
 use Rattle.item_tree.specs.JsonString.{is_raw}
 use Rattle.json_text.specs.Scan.{Part, string_at, after_bytes}
 use Rattle.json_text.specs.Machine.{characters, bad, string_token}
-use Rattle.json_text.proofs.SpellLemmas.{after_after, stretch_spelled, quote_spelled, end_spelled, control_spelled}
+use Rattle.json_text.proofs.SpellLemmas.{after_none, after_after, stretch_spelled, quote_spelled, end_spelled, control_spelled}
 use Rattle.item_reader.specs.Tokens.{uncons, begins}
 use Rattle.item_reader.proofs.Parts.{cons_of, nil_of}
 
@@ -51,6 +51,9 @@ pub closed : (new rest : List ℕ) (whole : Part (List ℕ)) (b : ℕ) (after : 
 closed new rest whole b after h e q =
     let c : rest ≡ 34 ∷ after = cons_of rest b after e ∙ ap (λ y. y ∷ after) q in
     ap (λ z. Some (z, after)) (sym (append-nil new)) ∙ sym (ap (λ l. after_bytes new (string_at l)) c ∙ ap (after_bytes new) (quote_spelled after)) ∙ h
+
+pub plain : (l raw rest : List ℕ) (b : ℕ) (after : List ℕ) → raw ≡ take (prefix_len is_raw l) l → rest ≡ drop (prefix_len is_raw l) l → uncons rest ≡ Some (b, after) → b ≡ 34 → string_at l ≡ Some (raw, after)
+plain l raw rest b after front back e q = sym (closed raw rest (string_at l) b after (stretch [] l raw raw rest (string_at l) refl front back (after_none (string_at l))) e q)
 
 pub refused : (new rest : List ℕ) (whole : Part (List ℕ)) (b : ℕ) (after : List ℕ) → after_bytes new (string_at rest) ≡ whole → uncons rest ≡ Some (b, after) → (b ≡ 34 → ⊥) → (b ≡ 92 → ⊥) → begins is_raw rest ≡ false → None ≡ whole
 refused new rest whole b after h e p q s =

@@ -1,6 +1,6 @@
 //! Strings, taken from the front of a text.
 
-ghost use Rattle.std.specs.Prelude.{◌≡◌, ◌<◌, ◌++◌, ◌∷◌, IfOk, IfSome, OnOk, MatchOption, option_map, None, length, suc};
+ghost use Rattle.std.specs.Prelude.{◌≡◌, ◌<◌, ◌≤◌, ◌++◌, ◌∷◌, IfOk, IfSome, OnOk, MatchOption, option_map, None, Some, length, suc};
 ghost use Rattle.std.specs.List.{prefix_len};
 ghost use Rattle.item_tree.specs.JsonString.{is_raw as is_raw_of};
 ghost use Rattle.json_text.specs.Scan.{string_at, after_bytes};
@@ -11,10 +11,12 @@ use crate::token::{Token, uncons};
 use item_tree::{NoMemory, Str};
 use json_text::{escape_at, is_raw, push_spelled};
 use std::alloc::Global;
+use std::str;
 
 // How many bytes at the front stand for themselves.
 fn raw_len(line: &[u8]) -> usize
-    ensures { result ≡ prefix_len is_raw_of line.now }
+    ensures value { result ≡ prefix_len is_raw_of line.now }
+    ensures within { result ≤ length line.now }
 {
     line.iter().take_while(|b| is_raw(**b)).count()
 }
@@ -67,10 +69,35 @@ fn string(alloc: Global, line: &[u8]) -> Result<Option<(Vec<u8>, &[u8])>, NoMemo
     }
 }
 
+// A content without escapes, and what is behind its closing quote.
+fn plain_string(line: &[u8]) -> Option<(&[u8], &[u8])>
+    ensures { IfSome result (λ p. string_at line.now ≡ Some (p.0.now, p.1.now)) }
+{
+    let (raw, behind) = line.split_at(raw_len(line));
+    let (mark, rest) = uncons(behind)?;
+    if mark == b'"' { Some((raw, rest)) } else { None }
+}
+
+fn plain_token<'a>(
+    alloc: Global,
+    bytes: &[u8],
+    rest: &'a [u8],
+) -> Result<(Token, &'a [u8]), NoMemory>
+    ensures { IfOk result (λ p. IsPart p.0 p.1.now (string_token_of (Some (bytes.now, rest.now)))) }
+{
+    match str::from_utf8(bytes) {
+        Ok(text) => Ok((Token::Text(Str::of(alloc, text)?), rest)),
+        Err(_) => Ok((Token::Bad, &[])),
+    }
+}
+
 /// The token of a string whose opening quote is before the line, and what is behind it.
 pub fn string_token(alloc: Global, line: &[u8]) -> Result<(Token, &[u8]), NoMemory>
     ensures { IfOk result (λ p. IsPart p.0 p.1.now (string_token_of (string_at line.now))) }
 {
+    if let Some((bytes, rest)) = plain_string(line) {
+        return plain_token(alloc, bytes, rest);
+    }
     let Some((bytes, rest)) = string(alloc, line)? else {
         return Ok((Token::Bad, &[]));
     };

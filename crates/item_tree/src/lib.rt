@@ -6,6 +6,7 @@ mod code;
 mod compare;
 mod fault;
 mod functions;
+mod held;
 mod item;
 pub mod laws;
 mod number;

@@ -5,27 +5,28 @@ ghost use Rattle.std.specs.Str.{chars, encode_utf8_all, all_scalars};
 ghost use Rattle.std.specs.String.{string_bytes};
 
 use crate::NoMemory;
+use crate::held::Held;
 use std::alloc::{AllocError, Global};
 use std::cmp::Ordering;
 use std::hash::{Hash, Hasher};
 use std::marker::Model;
-use std::sync::Arc;
 
-/// A string, seen as the list of its characters. Copies share one text.
+/// A string, seen as the list of its characters. Copies of a long one share its bytes.
 #[derive(Debug, Drop)]
 pub struct Str {
-    text: Arc<String, Global>,
+    text: Held,
 }
 
 impl Model for Str {
     ghost use Rattle.std.specs.Prelude.{ℕ, List};
     ghost use Rattle.std.specs.Str.{chars};
-    ghost use Rattle.std.specs.Arc.{arc_value};
-    ghost use Rattle.std.specs.String.{string_bytes};
+    ghost use Rattle.item_tree.specs.Held.{held_bytes, IsHeld};
 
     ghost Value = { List ℕ };
 
-    ghost view = { λ s. chars (string_bytes (arc_value s.text)) };
+    ghost view = { λ s. chars (held_bytes s.text) };
+
+    ghost invariant = { λ s. IsHeld s.text };
 }
 
 impl Str {
@@ -33,8 +34,8 @@ impl Str {
     pub fn of(alloc: Global, text: &str) -> Result<Str, NoMemory>
         ensures { IfOk result (λ s. s ≡ chars text.now) }
     {
-        match String::from_str(alloc, text) {
-            Ok(text) => Str::from_string(alloc, text),
+        match Held::of(alloc, text) {
+            Ok(text) => Ok(Str { text }),
             Err(_) => Err(NoMemory),
         }
     }
@@ -43,7 +44,7 @@ impl Str {
     pub fn from_string(alloc: Global, text: String) -> Result<Str, NoMemory>
         ensures { IfOk result (λ s. s ≡ chars (string_bytes text)) }
     {
-        match Arc::new(alloc, text) {
+        match Held::from_string(alloc, text) {
             Ok(text) => Ok(Str { text }),
             Err(_) => Err(NoMemory),
         }
@@ -81,7 +82,7 @@ impl Clone for Str {
     ghost is_clone = { λ a b. b ≡ a };
 
     fn clone(&self) -> Result<Str, AllocError> {
-        let text = Arc::try_clone(&self.text)?;
+        let text = self.text.copy()?;
         Ok(Str { text })
     }
 }

@@ -10,14 +10,14 @@ use Rattle.item_reader.proofs.string.string_token.Goals as goal
 pub returns-in-Ok : goal.returns-in-Ok
 returns-in-Ok c =
     let r = string_at c.args.line.now in
-    let found = rw c.in-Some.is at c.in_ok-bytes.ensures in
-    let valid : is_utf8 c.in-Some.bytes.items ≡ true = ap (λ v. is_utf8 v.items) (sym c.in-Ok.ensures.ok) ∙ is_utf8-from_IsUtf8 c.in-Ok.text.bytes.items (IsUtf8-had _ c.in-Ok.text.ok) in
-    let e = string_there r c.in-Some.bytes.items c.in-Some.rest.now found valid in
+    let found = rw c.in-Some-2.is at c.in_ok-bytes.ensures in
+    let valid : is_utf8 c.in-Some-2.bytes.items ≡ true = ap (λ v. is_utf8 v.items) (sym c.in-Ok.ensures.ok) ∙ is_utf8-from_IsUtf8 c.in-Ok.text.bytes.items (IsUtf8-had _ c.in-Ok.text.ok) in
+    let e = string_there r c.in-Some-2.bytes.items c.in-Some-2.rest.now found valid in
     (ap (λ p. p.0) e ∙ ap m.characters (ap (λ v. chars v.items) (sym c.in-Ok.ensures.ok) ∙ sym c.in_ok-from_string-in-Ok.ensures), sym (ap (λ p. p.1) e))
 
 pub returns : goal.returns
 returns c =
     let r = string_at c.args.line.now in
-    let found = rw c.in-Some.is at c.in_ok-bytes.ensures in
-    let e = string_refused r c.in-Some.bytes.items c.in-Some.rest.now found (no_utf8 _ (λ u. false≢true (c.in-Err.ensures.succeeds u))) in
+    let found = rw c.in-Some-2.is at c.in_ok-bytes.ensures in
+    let e = string_refused r c.in-Some-2.bytes.items c.in-Some-2.rest.now found (no_utf8 _ (λ u. false≢true (c.in-Err.ensures.succeeds u))) in
     (ap (λ p. p.0) e, sym (ap (λ p. p.1) e))
