@@ -1,0 +1,13 @@
+pub mod Cuts
+pub mod SimpleParts
+pub mod Alike
+pub mod Choice
+pub mod Ahead
+pub mod Longest
+pub mod Repeated
+pub mod Depth
+pub mod AllKinds
+pub mod Modes
+pub mod Levels
+pub mod TurnLemmas
+pub mod WholeTexts

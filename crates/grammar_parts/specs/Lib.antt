@@ -1,0 +1,9 @@
+pub mod Tokens
+pub mod Readers
+pub mod Reads
+pub mod Parts
+pub mod Levels
+pub mod Good
+pub mod Turns
+pub mod Nests
+pub mod Refusals
