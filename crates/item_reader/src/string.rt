@@ -75,7 +75,11 @@ fn plain_string(line: &[u8]) -> Option<(&[u8], &[u8])>
 {
     let (raw, behind) = line.split_at(raw_len(line));
     let (mark, rest) = uncons(behind)?;
-    if mark == b'"' { Some((raw, rest)) } else { None }
+    if mark == b'"' {
+        Some((raw, rest))
+    } else {
+        None
+    }
 }
 
 fn plain_token<'a>(
