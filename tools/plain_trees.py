@@ -2,15 +2,19 @@
 """Writes the mechanical part of the crate query_tree from the types of its trees.
 
 The trees of src/ hold boxes and vectors, which say where they lie in memory. A definition speaks of
-their plain values. This script reads the types under `#[cycle(ast)]` and writes
+their plain values. This script reads the types under `#[cycle(ast)]`, and the tuples that hold one
+of them beside other parts, and writes
 
-- specs/Plain.antt: a plain type for each of them, with a constructor for each variant or struct, and
-  the plain value of each tree, made by the generated fold;
+- specs/Plain.antt: a plain type for each of them, with a constructor for each variant, struct or
+  tuple, and the plain value of each tree, made by the generated fold;
 - proofs/Folds.antt: what a fold gives at a node that is known;
-- proofs/Layers.antt: the plain value at each variant and at each struct, in one ruleset `layers`.
+- proofs/Layers.antt: the plain value at each variant, struct and tuple, in one ruleset `layers`.
+
+The cycle has few types, since the proof of what drops a tree costs about the cube of their number. So
+a part that stands in lists alone, and holds one tree, is a tuple, which is no type of the cycle.
 
 A new variant needs no more than its lines in src/, a case of `nesting` in specs/Nesting.antt and a
-run of this script: tools/plain_trees.py
+run of this script: tools/plain_trees.py. A new tuple needs the names of its parts below too.
 """
 import re
 from pathlib import Path
@@ -22,6 +26,36 @@ HEAD = "-- Written by tools/plain_trees.py from the types of src/. Change those,
 PLAIN = {"Expr": "Tree", "Kind": "Form"}
 # Types that stand for plain values, or are plain.
 LEAVES = {"u32": "ℕ", "bool": "Bool", "Str": "List ℕ", "Whole": "ℤ", "Units": "ℤ", "V": "V", "F": "F", "T": "T"}
+
+# The names of a tuple's parts, in order.
+PARTS = {
+    "Bind": "variable of source",
+    "Catch": "error codes body",
+    "Factor": "op place value",
+    "GroupVar": "variable value",
+    "Operand": "place value",
+    "OrderKey": "value descending empty_greatest",
+    "Term": "op place value",
+    "TypeCase": "variable types result",
+}
+# Plain types that differ from those of src/: (module, is an enum, [(variant, [(field, type)])]).
+APART = {
+    "GroupVar": ("clause", True, [("Stream", [("variable", "Placed<V>")]), ("Computed", [("variable", "Placed<V>"), ("value", "Expr<V,F,T>")])]),
+    "PairKey": ("part", True, [("Name", [("name", "Str")]), ("Computed", [("value", "Expr<V,F,T>")])]),
+    "Pair": ("part", False, [("Pair", [("key", "PairKey<V,F,T>"), ("place", "u32"), ("value", "Expr<V,F,T>")])]),
+    "Lookup": ("step", True, [("Name", [("name", "Str")]), ("Text", [("value", "Str")]), ("Var", [("variable", "Placed<V>")]), ("Context", [("place", "u32")]), ("Computed", [("value", "Expr<V,F,T>")])]),
+    "Step": ("step", True, [("Members", [("place", "u32")]), ("Member", [("place", "u32"), ("position", "Expr<V,F,T>")]), ("Filter", [("place", "u32"), ("test", "Expr<V,F,T>")]), ("Field", [("place", "u32"), ("key", "Lookup<V,F,T>")])]),
+}
+# The plain value of a variant that has no constructor of its own.
+MADE = {
+    ("Pair", "Named"): "pair_node (name_pair_key {name}) {place} {value}",
+    ("Pair", "Computed"): "pair_node (computed_pair_key {key}) {place} {value}",
+    ("Step", "NameField"): "field_step {place} (name_lookup {name})",
+    ("Step", "TextField"): "field_step {place} (text_lookup {value})",
+    ("Step", "VarField"): "field_step {place} (var_lookup {variable})",
+    ("Step", "ContextField"): "field_step {place} (context_lookup {at})",
+    ("Step", "ComputedField"): "field_step {place} (computed_lookup {value})",
+}
 
 
 def read_types():
@@ -43,18 +77,33 @@ def read_types():
     return types
 
 
-def read_fields(body):
-    fields, depth, word = [], 0, ""
+def read_tuples():
+    """The tuples that hold a tree: (name, module, [(part, type)])."""
+    found = []
+    for path in sorted((CRATE / "src").glob("*.rt")):
+        text = re.sub(r"//.*", "", path.read_text())
+        for name, body in re.findall(r"pub type (\w+)<V, F, T> = \(([^;]*)\);", text):
+            kinds = [re.sub(r"\s+", "", kind) for kind in split(body)]
+            found.append((name, path.stem, list(zip(PARTS[name].split(), kinds, strict=True))))
+    return found
+
+
+def split(body):
+    """What stands between the commas."""
+    words, depth, word = [], 0, ""
     for c in body + ",":
         if c == "," and depth == 0:
-            if word.strip():
-                name, kind = word.replace("pub ", "").split(":", 1)
-                fields.append((name.strip(), re.sub(r"\s+", "", kind)))
+            words += [word] if word.strip() else []
             word = ""
         else:
             depth += {"<": 1, "(": 1, ">": -1, ")": -1}.get(c, 0)
             word += c
-    return fields
+    return words
+
+
+def read_fields(body):
+    fields = [word.replace("pub ", "").split(":", 1) for word in split(body)]
+    return [(name.strip(), re.sub(r"\s+", "", kind)) for name, kind in fields]
 
 
 TYPES = read_types()
@@ -62,6 +111,12 @@ NAMES = [name for name, _, _, _ in TYPES]
 MODULE = {name: module for name, module, _, _ in TYPES}
 ENUMS = {name for name, _, is_enum, _ in TYPES if is_enum}
 VARIANTS = {name: variants for name, _, _, variants in TYPES}
+TUPLES = {name: parts for name, _, parts in read_tuples()}
+# The plain types, and of them those with more than one constructor.
+MIRRORS = {name: (module, is_enum, variants) for name, module, is_enum, variants in TYPES}
+MIRRORS |= {name: (module, False, [(name, parts)]) for name, module, parts in read_tuples()}
+MIRRORS |= APART
+CHOICES = {name for name, (_, is_enum, _) in MIRRORS.items() if is_enum}
 
 
 def snake(name):
@@ -83,7 +138,15 @@ def value_of(name):
 
 def constructor(name, variant):
     word = snake(PLAIN.get(name, name))
-    return f"{snake(variant)}_{word}" if name in ENUMS else f"{word}_node"
+    return f"{snake(variant)}_{word}" if name in CHOICES else f"{word}_node"
+
+
+def made(name, variant, values):
+    """The plain value of a node, from those of its fields."""
+    values = {field: atom(value) for field, value in values.items()}
+    if (name, variant) in MADE:
+        return MADE[name, variant].format(**values)
+    return " ".join([constructor(name, variant), *values.values()])
 
 
 def list_type(name):
@@ -110,7 +173,13 @@ def inner(kind, outer):
 def tree(kind):
     """The type of a tree that this field holds."""
     match = re.fullmatch(r"(\w+)<V,F,T>", kind)
-    return match[1] if match and match[1] in NAMES else None
+    return match[1] if match and match[1] in MIRRORS else None
+
+
+def tuples(kind):
+    """The tuple that this field holds a list of."""
+    held = inner(kind, "Vec")
+    return tree(held) if held and tree(held) in TUPLES else None
 
 
 def atom(text):
@@ -147,6 +216,8 @@ def plain_field(kind):
 
 def declared(kind):
     """The type of a field as contracts see it."""
+    if tree(kind) in TUPLES:
+        return declared_tuple(tree(kind))
     if tree(kind):
         return tree(kind) + " V F T"
     for outer in ("Box", "Vec"):
@@ -155,6 +226,11 @@ def declared(kind):
     if inner(kind, "Option"):
         return "Option " + atom(declared(inner(kind, "Option")))
     return leaf(kind)
+
+
+def declared_tuple(name, expr="Expr V F T"):
+    """The type of a tuple as contracts see it, with this type in place of an expression."""
+    return " × ".join(declared(kind).replace("Expr V F T", expr) for _, kind in TUPLES[name])
 
 
 def converted(kind, x, layer):
@@ -169,22 +245,36 @@ def converted(kind, x, layer):
             return f"maybe_tree {x}" if layer else f"maybe_tree_of V F T {x}"
         if inner(held, "Vec"):
             return f"option_map (λ v. v.items) {x}"
+        if tree(held) and not layer:
+            return f"option_map ({value_of(tree(held))} V F T) {x}"
         return x
     if inner(kind, "Vec"):
         held = tree(inner(kind, "Vec"))
         if not held:
             return x + ".items"
         if layer:
-            return f"{list_of(held)} {x}.items"
+            return f"{list_of(held)} {atom(f'map {layer_of(held)} {x}.items') if held in TUPLES else x + '.items'}"
         return f"{list_of(held)} V F T (map ({value_of(held)} V F T) {x}.items)"
     return x
 
 
+def layer_of(name):
+    """The function from one layer of a node, whose trees are plain, to its plain value."""
+    return snake(name) + "_layer"
+
+
+def of_parts(name, layer):
+    """The plain value of the tuple x."""
+    values = [atom(converted(kind, f"x.{i}", layer)) for i, (_, kind) in enumerate(TUPLES[name])]
+    return " ".join(["group_var" if name in CHOICES else constructor(name, name), *values])
+
+
 # The generated fold takes the enums first, and then the structs, each in the order of their paths.
 ORDER = sorted(NAMES, key=lambda name: (name not in ENUMS, MODULE[name], name))
-LISTS = [n for n in ORDER if any(inner(k, "Vec") == f"{n}<V,F,T>" for v in VARIANTS.values() for _, fs in v for _, k in fs)]
+MIRROR_ORDER = sorted(MIRRORS, key=lambda name: (name not in CHOICES, MIRRORS[name][0], name))
+LISTS = [n for n in MIRROR_ORDER if any(inner(k, "Vec") == f"{n}<V,F,T>" for v in VARIANTS.values() for _, fs in v for _, k in fs)]
 CARRIERS = " ".join(f"({plain(n)} V F T)" for n in ORDER)
-LAYERS = [snake(n) + "_layer" for n in ORDER]
+LAYERS = [layer_of(n) for n in ORDER]
 OTHERS = ["Placed", "CompareOp", "ProductOp", "Quantifier", "SumOp"]
 OTHER_MODULES = {"Placed": "names"}
 
@@ -200,15 +290,15 @@ def imports_of_declared(words):
 
 def write_plain():
     out = [HEAD + "-- Trees as plain values, without where they lie in memory."]
-    out.append("use Rattle.std.specs.Prelude.{ℕ, ℤ, Bool, List, [], ◌∷◌, Option, Some, None, option_map}")
+    out.append("use Rattle.std.specs.Prelude.{ℕ, ℤ, Bool, List, [], ◌∷◌, Option, Some, None, Vec, map, option_map}")
     out.append("use Rattle.std.specs.declared.alloc.Global.{Global}")
     out.append("use Rattle.std.specs.declared.boxed.Box.{Box}")
     out += imports_of_declared(["{0}", "{0}-F", "fold-{0}"])
     out.append(f"use Rattle.query_tree.specs.declared.{MODULE[ORDER[0]]}.{ORDER[0]}.TheOpen as node")
     out += ["", "mutual"]
-    for name in ["Expr"] + [n for n in ORDER if n != "Expr"]:
+    for name in ["Expr"] + [n for n in MIRROR_ORDER if n != "Expr"]:
         out.append(f"  pub data {plain(name)} (V F T : Type 0) : Type 0 where")
-        for variant, fields in VARIANTS[name]:
+        for variant, fields in MIRRORS[name][2]:
             parts = "".join(f"({f} : {plain_field(k)}) → " for f, k in fields)
             out.append(f"    {constructor(name, variant)} : {parts}{plain(name)} V F T")
         out.append("")
@@ -229,23 +319,35 @@ def write_plain():
     out.append("  abbrev pub maybe_tree : Option (Box (Tree V F T) Global) → MaybeTree V F T")
     out.append("  maybe_tree None = no_tree")
     out.append("  maybe_tree (Some t) = one_tree t.value")
+    out.append("")
+    out.append("  abbrev pub group_var : Placed V → Option (Tree V F T) → PlainGroupVar V F T")
+    out.append("  group_var variable None = stream_group_var variable")
+    out.append("  group_var variable (Some value) = computed_group_var variable value")
+    for name in TUPLES:
+        out.append("")
+        out.append(f"  abbrev pub {layer_of(name)} : {declared_tuple(name, 'Tree V F T')} → {plain(name)} V F T")
+        out.append(f"  {layer_of(name)} x = {of_parts(name, True)}")
     for name in ORDER:
-        layer = snake(name) + "_layer"
+        layer = layer_of(name)
         out.append("")
         out.append(f"  abbrev pub {layer} : {name}-F V F T {CARRIERS} → {plain(name)} V F T")
         for variant, fields in VARIANTS[name]:
             if name in ENUMS:
                 pattern = " ".join([f"node.{opened(name, variant)}"] + [f + "'" for f, _ in fields])
-                values = [converted(k, f + "'", True) for f, k in fields]
+                values = {f: converted(k, f + "'", True) for f, k in fields}
                 pattern = f"({pattern})" if fields else pattern
             else:
                 pattern = "x"
-                values = [converted(k, "x." + f, True) for f, k in fields]
-            out.append(f"  {layer} {pattern} = {' '.join([constructor(name, variant)] + [atom(v) for v in values])}")
+                values = {f: converted(k, "x." + f, True) for f, k in fields}
+            out.append(f"  {layer} {pattern} = {made(name, variant, values)}")
     for name in ORDER:
         out.append("")
         out.append(f"  unfoldable pub {value_of(name)} : {name} V F T → {plain(name)} V F T")
         out.append(f"  {value_of(name)} = fold-{name} V F T {CARRIERS} {' '.join(LAYERS)}")
+    for name in TUPLES:
+        out.append("")
+        out.append(f"  unfoldable pub {value_of(name)} : {declared_tuple(name)} → {plain(name)} V F T")
+        out.append(f"  {value_of(name)} x = {of_parts(name, False).replace(' V F T', '')}")
     out.append("")
     out.append("  abbrev pub maybe_tree_of : Option (Box (Expr V F T) Global) → MaybeTree V F T")
     out.append("  maybe_tree_of None = no_tree")
@@ -290,13 +392,23 @@ def write_folds():
     (CRATE / "proofs/Folds.antt").write_text("\n".join(out).rstrip() + "\n")
 
 
+def one_map(name, x, whole):
+    """A proof that this whole is the same for the tuples r with their trees made plain first, and at once."""
+    if name in CHOICES:
+        return f"ap (λ (r : List ({plain(name)} V F T)). {whole}) (group_vars_made _ (λ v. refl) (λ v e. refl) {x}.items)"
+    parts = [converted(kind, f"x.{i}", False) if "<V,F,T>" in kind else f"x.{i}" for i, (_, kind) in enumerate(TUPLES[name])]
+    folded = f"(λ (x : {declared_tuple(name)}). ({', '.join(parts)}))"
+    return f"ap (λ (r : List ({plain(name)} V F T)). {whole}) (map-map ({layer_of(name)} V F T) {folded} {x}.items)"
+
+
 def write_layers():
-    values = " ".join(dict.fromkeys(value_of(n) for n in ORDER))
+    values = " ".join(value_of(n) for n in [*ORDER, *TUPLES])
     steps = " ".join(f"({x} V F T)" for x in LAYERS)
     lists = [list_of(n) for n in LISTS]
-    made = [constructor(n, v) for n in ORDER for v, _ in VARIANTS[n]]
+    constructors = [constructor(n, v) for n in MIRROR_ORDER for v, _ in MIRRORS[n][2]]
     out = [HEAD + "-- The plain value of a tree, at each kind of node."]
-    out.append("use Rattle.std.proofs.Common.{◌≡◌, ℕ, ℤ, Bool, List, Option, Some, None, option_map, map}")
+    out.append("use Rattle.std.proofs.Common.{◌≡◌, ℕ, ℤ, Bool, List, [], ◌∷◌, Option, Some, None, option_map, map, ap, ◌∙◌, refl}")
+    out.append("use Rattle.std.proofs.lemmas.Simd.{map-map}")
     out.append("use Rattle.std.specs.declared.alloc.Global.{Global}")
     out.append("use Rattle.std.specs.declared.boxed.Box.{Box}")
     out.append("use Rattle.std.specs.Prelude.{Vec}")
@@ -309,10 +421,22 @@ def write_layers():
             out.append(f"use Rattle.query_tree.specs.declared.{MODULE[name]}.{name}.TheVariants as {snake(name)}")
     for name in OTHERS:
         out.append(f"use Rattle.query_tree.specs.declared.{OTHER_MODULES.get(name, 'operator')}.{name}.{{{name}}}")
-    plains = [plain(n) for n in ORDER]
-    out.append(f"use Rattle.query_tree.specs.Plain.{{{', '.join(plains + lists + made + LAYERS + values.split() + ['maybe_tree_of'])}}}")
+    plains = [plain(n) for n in [*ORDER, *TUPLES]]
+    layers = LAYERS + [layer_of(n) for n in TUPLES]
+    out.append(f"use Rattle.query_tree.specs.Plain.{{{', '.join(plains + lists + constructors + layers + values.split() + ['maybe_tree_of'])}}}")
     out.append(f"use Rattle.query_tree.proofs.Folds.{{{', '.join(snake(n) + '_fold' for n in ORDER if n in ENUMS)}}}")
     out += ["", "module _ (V F T : Type 0) where"]
+    before, after = (declared_tuple("GroupVar", of) for of in ("Expr V F T", "Tree V F T"))
+    given = f"(f : {before} → {after}) (absent : (v : Placed V) → f (v, None) ≡ (v, None)) (present : (v : Placed V) (e : Expr V F T) → f (v, Some e) ≡ (v, Some (tree_of V F T e)))"
+    out.append(f"  group_var_made : {given} (x : {before}) → group_var_layer V F T (f x) ≡ group_var_of V F T x")
+    out.append("  unfolding group_var_of")
+    out.append("  group_var_made f absent present (v, None) = ap (group_var_layer V F T) (absent v)")
+    out.append("  group_var_made f absent present (v, Some e) = ap (group_var_layer V F T) (present v e)")
+    out.append("")
+    out.append(f"  group_vars_made : {given} (xs : List ({before})) → map (group_var_layer V F T) (map f xs) ≡ map (group_var_of V F T) xs")
+    out.append("  group_vars_made f absent present [] = refl")
+    out.append("  group_vars_made f absent present (x ∷ xs) = λ i. group_var_made f absent present x i ∷ group_vars_made f absent present xs i")
+    out.append("")
     rules = []
 
     def lemma(name, arguments, left, right, proof):
@@ -333,21 +457,32 @@ def write_layers():
     for name in ORDER:
         of, word = value_of(name), snake(name)
         for variant, fields in VARIANTS[name]:
-            made = constructor(name, variant)
             if name in ENUMS:
                 arguments = [(f + "'", declared(k)) for f, k in fields]
                 node = " ".join([f"{word}.{variant}"] + [x for x, _ in arguments])
-                right = " ".join([made] + [atom(converted(k, f + "'", False)) for f, k in fields])
+                values_of = {f: converted(k, f + "'", False) for f, k in fields}
+                right = made(name, variant, values_of)
                 outs = " ".join([f"{word}.outs-{variant}"] + [x for x, _ in arguments])
-                lemma(f"{of}-{variant}", arguments, f"{of} V F T {atom(node)}", right, f"{word}_fold V F T {CARRIERS} {steps} {atom(node)} _ {atom(outs)}")
+                proof = f"{word}_fold V F T {CARRIERS} {steps} {atom(node)} _ {atom(outs)}"
+                for f, k in fields:
+                    if tuples(k):
+                        proof += " ∙ " + one_map(tuples(k), f + "'", made(name, variant, values_of | {f: f"{list_of(tuples(k))} V F T r"}))
+                lemma(f"{of}-{variant}", arguments, f"{of} V F T {atom(node)}", right, proof)
             else:
                 whole = "x" if is_record(fields) else f"(out-{name} V F T x)"
-                right = " ".join([made] + [atom(converted(k, f"{whole}.{f}", False)) for f, k in fields])
+                right = made(name, variant, {f: converted(k, f"{whole}.{f}", False) for f, k in fields})
                 lemma(f"{of}-out", [("x", f"{name} V F T")], f"{of} V F T x", right, f"fold_out-{name} V F T {CARRIERS} {steps} x")
                 arguments = [(f + "'", declared(k)) for f, k in fields]
                 node = "record { " + "; ".join(f"{f} = {f}'" for f, _ in fields) + " }"
-                right = " ".join([made] + [atom(converted(k, f + "'", False)) for f, k in fields])
+                right = made(name, variant, {f: converted(k, f + "'", False) for f, k in fields})
                 lemma(f"{of}-made", arguments, f"{of} V F T (roll-{name} V F T ({node}))", right, f"fold-roll-{name} V F T {CARRIERS} {steps} ({node})")
+    for name in TUPLES:
+        of = value_of(name)
+        if name in CHOICES:
+            lemma(f"{of}-Stream", [("variable'", "Placed V")], f"{of} V F T (variable', None)", "stream_group_var variable'", "refl")
+            lemma(f"{of}-Computed", [("variable'", "Placed V"), ("value'", "Expr V F T")], f"{of} V F T (variable', Some value')", "computed_group_var variable' (tree_of V F T value')", "refl")
+        else:
+            lemma(f"{of}-out", [("x", declared_tuple(name))], f"{of} V F T x", of_parts(name, False), "refl")
     out.append(f"pub ruleset layers = ({', '.join(rules)})")
     (CRATE / "proofs/Layers.antt").write_text("\n".join(out) + "\n")
 

@@ -1,24 +1,14 @@
 -- Written by tools/plain_trees.py from the types of src/. Change those, and run it again.
 -- Trees as plain values, without where they lie in memory.
-use Rattle.std.specs.Prelude.{ℕ, ℤ, Bool, List, [], ◌∷◌, Option, Some, None, option_map}
+use Rattle.std.specs.Prelude.{ℕ, ℤ, Bool, List, [], ◌∷◌, Option, Some, None, Vec, map, option_map}
 use Rattle.std.specs.declared.alloc.Global.{Global}
 use Rattle.std.specs.declared.boxed.Box.{Box}
 use Rattle.query_tree.specs.declared.clause.Clause.{Clause, Clause-F, fold-Clause}
-use Rattle.query_tree.specs.declared.clause.GroupVar.{GroupVar, GroupVar-F, fold-GroupVar}
 use Rattle.query_tree.specs.declared.expr.Kind.{Kind, Kind-F, fold-Kind}
-use Rattle.query_tree.specs.declared.part.PairKey.{PairKey, PairKey-F, fold-PairKey}
-use Rattle.query_tree.specs.declared.step.Lookup.{Lookup, Lookup-F, fold-Lookup}
-use Rattle.query_tree.specs.declared.step.Step.{Step, Step-F, fold-Step}
-use Rattle.query_tree.specs.declared.clause.OrderKey.{OrderKey, OrderKey-F, fold-OrderKey}
-use Rattle.query_tree.specs.declared.expr.Expr.{Expr, Expr-F, fold-Expr}
-use Rattle.query_tree.specs.declared.part.Bind.{Bind, Bind-F, fold-Bind}
-use Rattle.query_tree.specs.declared.part.Case.{Case, Case-F, fold-Case}
-use Rattle.query_tree.specs.declared.part.Catch.{Catch, Catch-F, fold-Catch}
-use Rattle.query_tree.specs.declared.part.Factor.{Factor, Factor-F, fold-Factor}
-use Rattle.query_tree.specs.declared.part.Operand.{Operand, Operand-F, fold-Operand}
 use Rattle.query_tree.specs.declared.part.Pair.{Pair, Pair-F, fold-Pair}
-use Rattle.query_tree.specs.declared.part.Term.{Term, Term-F, fold-Term}
-use Rattle.query_tree.specs.declared.part.TypeCase.{TypeCase, TypeCase-F, fold-TypeCase}
+use Rattle.query_tree.specs.declared.step.Step.{Step, Step-F, fold-Step}
+use Rattle.query_tree.specs.declared.expr.Expr.{Expr, Expr-F, fold-Expr}
+use Rattle.query_tree.specs.declared.part.Case.{Case, Case-F, fold-Case}
 use Rattle.query_tree.specs.declared.names.Placed.{Placed}
 use Rattle.query_tree.specs.declared.operator.CompareOp.{CompareOp}
 use Rattle.query_tree.specs.declared.operator.ProductOp.{ProductOp}
@@ -236,149 +226,140 @@ module _ (V F T : Type 0) where
   maybe_tree None = no_tree
   maybe_tree (Some t) = one_tree t.value
 
-  abbrev pub clause_layer : Clause-F V F T (PlainClause V F T) (PlainGroupVar V F T) (Form V F T) (PlainPairKey V F T) (PlainLookup V F T) (PlainStep V F T) (PlainOrderKey V F T) (Tree V F T) (PlainBind V F T) (PlainCase V F T) (PlainCatch V F T) (PlainFactor V F T) (PlainOperand V F T) (PlainPair V F T) (PlainTerm V F T) (PlainTypeCase V F T) → PlainClause V F T
+  abbrev pub group_var : Placed V → Option (Tree V F T) → PlainGroupVar V F T
+  group_var variable None = stream_group_var variable
+  group_var variable (Some value) = computed_group_var variable value
+
+  abbrev pub group_var_layer : Placed V × Option (Tree V F T) → PlainGroupVar V F T
+  group_var_layer x = group_var x.0 x.1
+
+  abbrev pub order_key_layer : Tree V F T × Bool × Bool → PlainOrderKey V F T
+  order_key_layer x = order_key_node x.0 x.1 x.2
+
+  abbrev pub operand_layer : ℕ × Tree V F T → PlainOperand V F T
+  operand_layer x = operand_node x.0 x.1
+
+  abbrev pub term_layer : SumOp × ℕ × Tree V F T → PlainTerm V F T
+  term_layer x = term_node x.0 x.1 x.2
+
+  abbrev pub factor_layer : ProductOp × ℕ × Tree V F T → PlainFactor V F T
+  factor_layer x = factor_node x.0 x.1 x.2
+
+  abbrev pub bind_layer : Placed V × Option (Placed T) × Tree V F T → PlainBind V F T
+  bind_layer x = bind_node x.0 x.1 x.2
+
+  abbrev pub type_case_layer : Option (Placed V) × Vec (Placed T) Global × Tree V F T → PlainTypeCase V F T
+  type_case_layer x = type_case_node x.0 x.1.items x.2
+
+  abbrev pub catch_layer : Placed V × Option (Vec (List ℕ) Global) × Tree V F T → PlainCatch V F T
+  catch_layer x = catch_node x.0 (option_map (λ v. v.items) x.1) x.2
+
+  abbrev pub clause_layer : Clause-F V F T (PlainClause V F T) (Form V F T) (PlainPair V F T) (PlainStep V F T) (Tree V F T) (PlainCase V F T) → PlainClause V F T
   clause_layer (node.For variable' of' allowing_empty' at' source') = for_clause variable' of' allowing_empty' at' source'
   clause_layer (node.Let variable' of' value') = let_clause variable' of' value'
   clause_layer (node.Keep place' test') = keep_clause place' test'
-  clause_layer (node.Group place' keys') = group_clause place' (group_vars_of keys'.items)
-  clause_layer (node.Order place' stable' keys') = order_clause place' stable' (order_keys_of keys'.items)
+  clause_layer (node.Group place' keys') = group_clause place' (group_vars_of (map group_var_layer keys'.items))
+  clause_layer (node.Order place' stable' keys') = order_clause place' stable' (order_keys_of (map order_key_layer keys'.items))
   clause_layer (node.Count place' variable') = count_clause place' variable'
 
-  abbrev pub group_var_layer : GroupVar-F V F T (PlainClause V F T) (PlainGroupVar V F T) (Form V F T) (PlainPairKey V F T) (PlainLookup V F T) (PlainStep V F T) (PlainOrderKey V F T) (Tree V F T) (PlainBind V F T) (PlainCase V F T) (PlainCatch V F T) (PlainFactor V F T) (PlainOperand V F T) (PlainPair V F T) (PlainTerm V F T) (PlainTypeCase V F T) → PlainGroupVar V F T
-  group_var_layer (node.Stream variable') = stream_group_var variable'
-  group_var_layer (node.GroupVar::Computed variable' value') = computed_group_var variable' value'
-
-  abbrev pub kind_layer : Kind-F V F T (PlainClause V F T) (PlainGroupVar V F T) (Form V F T) (PlainPairKey V F T) (PlainLookup V F T) (PlainStep V F T) (PlainOrderKey V F T) (Tree V F T) (PlainBind V F T) (PlainCase V F T) (PlainCatch V F T) (PlainFactor V F T) (PlainOperand V F T) (PlainPair V F T) (PlainTerm V F T) (PlainTypeCase V F T) → Form V F T
-  kind_layer (node.Comma first' rest') = comma_form first'.value (operands_of rest'.items)
+  abbrev pub kind_layer : Kind-F V F T (PlainClause V F T) (Form V F T) (PlainPair V F T) (PlainStep V F T) (Tree V F T) (PlainCase V F T) → Form V F T
+  kind_layer (node.Comma first' rest') = comma_form first'.value (operands_of (map operand_layer rest'.items))
   kind_layer (node.Flwor clauses' place' result') = flwor_form (clauses_of clauses'.items) place' result'.value
-  kind_layer (node.Quant quantifier' binds' test') = quant_form quantifier' (binds_of binds'.items) test'.value
+  kind_layer (node.Quant quantifier' binds' test') = quant_form quantifier' (binds_of (map bind_layer binds'.items)) test'.value
   kind_layer (node.Switch operand' cases' default') = switch_form operand'.value (cases_of cases'.items) default'.value
-  kind_layer (node.Typeswitch operand' cases' variable' default') = typeswitch_form operand'.value (type_cases_of cases'.items) variable' default'.value
+  kind_layer (node.Typeswitch operand' cases' variable' default') = typeswitch_form operand'.value (type_cases_of (map type_case_layer cases'.items)) variable' default'.value
   kind_layer (node.If condition' when_true' when_false') = if_form condition'.value when_true'.value when_false'.value
-  kind_layer (node.Try body' catches') = try_form body'.value (catches_of catches'.items)
-  kind_layer (node.Or first' rest') = or_form first'.value (operands_of rest'.items)
-  kind_layer (node.And first' rest') = and_form first'.value (operands_of rest'.items)
+  kind_layer (node.Try body' catches') = try_form body'.value (catches_of (map catch_layer catches'.items))
+  kind_layer (node.Or first' rest') = or_form first'.value (operands_of (map operand_layer rest'.items))
+  kind_layer (node.And first' rest') = and_form first'.value (operands_of (map operand_layer rest'.items))
   kind_layer (node.Not operand') = not_form operand'.value
   kind_layer (node.Compare left' op' place' right') = compare_form left'.value op' place' right'.value
-  kind_layer (node.Concat first' rest') = concat_form first'.value (operands_of rest'.items)
+  kind_layer (node.Concat first' rest') = concat_form first'.value (operands_of (map operand_layer rest'.items))
   kind_layer (node.Range left' place' right') = range_form left'.value place' right'.value
-  kind_layer (node.Sum first' rest') = sum_form first'.value (terms_of rest'.items)
-  kind_layer (node.Product first' rest') = product_form first'.value (factors_of rest'.items)
+  kind_layer (node.Sum first' rest') = sum_form first'.value (terms_of (map term_layer rest'.items))
+  kind_layer (node.Product first' rest') = product_form first'.value (factors_of (map factor_layer rest'.items))
   kind_layer (node.Instance operand' place' of') = instance_form operand'.value place' of'
   kind_layer (node.Treat operand' place' to') = treat_form operand'.value place' to'
   kind_layer (node.Castable operand' place' to') = castable_form operand'.value place' to'
   kind_layer (node.Cast operand' place' to') = cast_form operand'.value place' to'
   kind_layer (node.Sign signs' operand') = sign_form signs'.items operand'.value
-  kind_layer (node.Map first' rest') = map_form first'.value (operands_of rest'.items)
+  kind_layer (node.Map first' rest') = map_form first'.value (operands_of (map operand_layer rest'.items))
   kind_layer (node.Postfix primary' steps') = postfix_form primary'.value (steps_of steps'.items)
   kind_layer (node.Int value') = int_form value'
   kind_layer (node.Dec value') = dec_form value'
-  kind_layer (node.Kind::Text value') = text_form value'
+  kind_layer (node.Text value') = text_form value'
   kind_layer node.True = true_form
   kind_layer node.False = false_form
   kind_layer node.Null = null_form
-  kind_layer (node.Kind::Var variable') = var_form variable'
-  kind_layer node.Kind::Context = context_form
+  kind_layer (node.Var variable') = var_form variable'
+  kind_layer node.Context = context_form
   kind_layer (node.Paren content') = paren_form (maybe_tree content')
   kind_layer (node.Object pairs') = object_form (pairs_of pairs'.items)
   kind_layer (node.Merge content') = merge_form (maybe_tree content')
   kind_layer (node.Array content') = array_form (maybe_tree content')
   kind_layer (node.Call function' arguments') = call_form function' (trees_of arguments'.items)
 
-  abbrev pub pair_key_layer : PairKey-F V F T (PlainClause V F T) (PlainGroupVar V F T) (Form V F T) (PlainPairKey V F T) (PlainLookup V F T) (PlainStep V F T) (PlainOrderKey V F T) (Tree V F T) (PlainBind V F T) (PlainCase V F T) (PlainCatch V F T) (PlainFactor V F T) (PlainOperand V F T) (PlainPair V F T) (PlainTerm V F T) (PlainTypeCase V F T) → PlainPairKey V F T
-  pair_key_layer (node.PairKey::Name name') = name_pair_key name'
-  pair_key_layer (node.PairKey::Computed value') = computed_pair_key value'
+  abbrev pub pair_layer : Pair-F V F T (PlainClause V F T) (Form V F T) (PlainPair V F T) (PlainStep V F T) (Tree V F T) (PlainCase V F T) → PlainPair V F T
+  pair_layer (node.Named name' place' value') = pair_node (name_pair_key name') place' value'
+  pair_layer (node.Computed key' place' value') = pair_node (computed_pair_key key') place' value'
 
-  abbrev pub lookup_layer : Lookup-F V F T (PlainClause V F T) (PlainGroupVar V F T) (Form V F T) (PlainPairKey V F T) (PlainLookup V F T) (PlainStep V F T) (PlainOrderKey V F T) (Tree V F T) (PlainBind V F T) (PlainCase V F T) (PlainCatch V F T) (PlainFactor V F T) (PlainOperand V F T) (PlainPair V F T) (PlainTerm V F T) (PlainTypeCase V F T) → PlainLookup V F T
-  lookup_layer (node.Lookup::Name name') = name_lookup name'
-  lookup_layer (node.Lookup::Text value') = text_lookup value'
-  lookup_layer (node.Lookup::Var variable') = var_lookup variable'
-  lookup_layer (node.Lookup::Context place') = context_lookup place'
-  lookup_layer (node.Lookup::Computed value') = computed_lookup value'
-
-  abbrev pub step_layer : Step-F V F T (PlainClause V F T) (PlainGroupVar V F T) (Form V F T) (PlainPairKey V F T) (PlainLookup V F T) (PlainStep V F T) (PlainOrderKey V F T) (Tree V F T) (PlainBind V F T) (PlainCase V F T) (PlainCatch V F T) (PlainFactor V F T) (PlainOperand V F T) (PlainPair V F T) (PlainTerm V F T) (PlainTypeCase V F T) → PlainStep V F T
+  abbrev pub step_layer : Step-F V F T (PlainClause V F T) (Form V F T) (PlainPair V F T) (PlainStep V F T) (Tree V F T) (PlainCase V F T) → PlainStep V F T
   step_layer (node.Members place') = members_step place'
   step_layer (node.Member place' position') = member_step place' position'
   step_layer (node.Filter place' test') = filter_step place' test'
-  step_layer (node.Field place' key') = field_step place' key'
+  step_layer (node.NameField place' name') = field_step place' (name_lookup name')
+  step_layer (node.TextField place' value') = field_step place' (text_lookup value')
+  step_layer (node.VarField place' variable') = field_step place' (var_lookup variable')
+  step_layer (node.ContextField place' at') = field_step place' (context_lookup at')
+  step_layer (node.ComputedField place' value') = field_step place' (computed_lookup value')
 
-  abbrev pub order_key_layer : OrderKey-F V F T (PlainClause V F T) (PlainGroupVar V F T) (Form V F T) (PlainPairKey V F T) (PlainLookup V F T) (PlainStep V F T) (PlainOrderKey V F T) (Tree V F T) (PlainBind V F T) (PlainCase V F T) (PlainCatch V F T) (PlainFactor V F T) (PlainOperand V F T) (PlainPair V F T) (PlainTerm V F T) (PlainTypeCase V F T) → PlainOrderKey V F T
-  order_key_layer x = order_key_node x.value x.descending x.empty_greatest
-
-  abbrev pub expr_layer : Expr-F V F T (PlainClause V F T) (PlainGroupVar V F T) (Form V F T) (PlainPairKey V F T) (PlainLookup V F T) (PlainStep V F T) (PlainOrderKey V F T) (Tree V F T) (PlainBind V F T) (PlainCase V F T) (PlainCatch V F T) (PlainFactor V F T) (PlainOperand V F T) (PlainPair V F T) (PlainTerm V F T) (PlainTypeCase V F T) → Tree V F T
+  abbrev pub expr_layer : Expr-F V F T (PlainClause V F T) (Form V F T) (PlainPair V F T) (PlainStep V F T) (Tree V F T) (PlainCase V F T) → Tree V F T
   expr_layer x = tree_node x.place x.kind
 
-  abbrev pub bind_layer : Bind-F V F T (PlainClause V F T) (PlainGroupVar V F T) (Form V F T) (PlainPairKey V F T) (PlainLookup V F T) (PlainStep V F T) (PlainOrderKey V F T) (Tree V F T) (PlainBind V F T) (PlainCase V F T) (PlainCatch V F T) (PlainFactor V F T) (PlainOperand V F T) (PlainPair V F T) (PlainTerm V F T) (PlainTypeCase V F T) → PlainBind V F T
-  bind_layer x = bind_node x.variable x.of x.source
-
-  abbrev pub case_layer : Case-F V F T (PlainClause V F T) (PlainGroupVar V F T) (Form V F T) (PlainPairKey V F T) (PlainLookup V F T) (PlainStep V F T) (PlainOrderKey V F T) (Tree V F T) (PlainBind V F T) (PlainCase V F T) (PlainCatch V F T) (PlainFactor V F T) (PlainOperand V F T) (PlainPair V F T) (PlainTerm V F T) (PlainTypeCase V F T) → PlainCase V F T
+  abbrev pub case_layer : Case-F V F T (PlainClause V F T) (Form V F T) (PlainPair V F T) (PlainStep V F T) (Tree V F T) (PlainCase V F T) → PlainCase V F T
   case_layer x = case_node (trees_of x.tests.items) x.result
 
-  abbrev pub catch_layer : Catch-F V F T (PlainClause V F T) (PlainGroupVar V F T) (Form V F T) (PlainPairKey V F T) (PlainLookup V F T) (PlainStep V F T) (PlainOrderKey V F T) (Tree V F T) (PlainBind V F T) (PlainCase V F T) (PlainCatch V F T) (PlainFactor V F T) (PlainOperand V F T) (PlainPair V F T) (PlainTerm V F T) (PlainTypeCase V F T) → PlainCatch V F T
-  catch_layer x = catch_node x.error (option_map (λ v. v.items) x.codes) x.body
-
-  abbrev pub factor_layer : Factor-F V F T (PlainClause V F T) (PlainGroupVar V F T) (Form V F T) (PlainPairKey V F T) (PlainLookup V F T) (PlainStep V F T) (PlainOrderKey V F T) (Tree V F T) (PlainBind V F T) (PlainCase V F T) (PlainCatch V F T) (PlainFactor V F T) (PlainOperand V F T) (PlainPair V F T) (PlainTerm V F T) (PlainTypeCase V F T) → PlainFactor V F T
-  factor_layer x = factor_node x.op x.place x.value
-
-  abbrev pub operand_layer : Operand-F V F T (PlainClause V F T) (PlainGroupVar V F T) (Form V F T) (PlainPairKey V F T) (PlainLookup V F T) (PlainStep V F T) (PlainOrderKey V F T) (Tree V F T) (PlainBind V F T) (PlainCase V F T) (PlainCatch V F T) (PlainFactor V F T) (PlainOperand V F T) (PlainPair V F T) (PlainTerm V F T) (PlainTypeCase V F T) → PlainOperand V F T
-  operand_layer x = operand_node x.place x.value
-
-  abbrev pub pair_layer : Pair-F V F T (PlainClause V F T) (PlainGroupVar V F T) (Form V F T) (PlainPairKey V F T) (PlainLookup V F T) (PlainStep V F T) (PlainOrderKey V F T) (Tree V F T) (PlainBind V F T) (PlainCase V F T) (PlainCatch V F T) (PlainFactor V F T) (PlainOperand V F T) (PlainPair V F T) (PlainTerm V F T) (PlainTypeCase V F T) → PlainPair V F T
-  pair_layer x = pair_node x.key x.place x.value
-
-  abbrev pub term_layer : Term-F V F T (PlainClause V F T) (PlainGroupVar V F T) (Form V F T) (PlainPairKey V F T) (PlainLookup V F T) (PlainStep V F T) (PlainOrderKey V F T) (Tree V F T) (PlainBind V F T) (PlainCase V F T) (PlainCatch V F T) (PlainFactor V F T) (PlainOperand V F T) (PlainPair V F T) (PlainTerm V F T) (PlainTypeCase V F T) → PlainTerm V F T
-  term_layer x = term_node x.op x.place x.value
-
-  abbrev pub type_case_layer : TypeCase-F V F T (PlainClause V F T) (PlainGroupVar V F T) (Form V F T) (PlainPairKey V F T) (PlainLookup V F T) (PlainStep V F T) (PlainOrderKey V F T) (Tree V F T) (PlainBind V F T) (PlainCase V F T) (PlainCatch V F T) (PlainFactor V F T) (PlainOperand V F T) (PlainPair V F T) (PlainTerm V F T) (PlainTypeCase V F T) → PlainTypeCase V F T
-  type_case_layer x = type_case_node x.variable x.types.items x.result
-
   unfoldable pub clause_of : Clause V F T → PlainClause V F T
-  clause_of = fold-Clause V F T (PlainClause V F T) (PlainGroupVar V F T) (Form V F T) (PlainPairKey V F T) (PlainLookup V F T) (PlainStep V F T) (PlainOrderKey V F T) (Tree V F T) (PlainBind V F T) (PlainCase V F T) (PlainCatch V F T) (PlainFactor V F T) (PlainOperand V F T) (PlainPair V F T) (PlainTerm V F T) (PlainTypeCase V F T) clause_layer group_var_layer kind_layer pair_key_layer lookup_layer step_layer order_key_layer expr_layer bind_layer case_layer catch_layer factor_layer operand_layer pair_layer term_layer type_case_layer
-
-  unfoldable pub group_var_of : GroupVar V F T → PlainGroupVar V F T
-  group_var_of = fold-GroupVar V F T (PlainClause V F T) (PlainGroupVar V F T) (Form V F T) (PlainPairKey V F T) (PlainLookup V F T) (PlainStep V F T) (PlainOrderKey V F T) (Tree V F T) (PlainBind V F T) (PlainCase V F T) (PlainCatch V F T) (PlainFactor V F T) (PlainOperand V F T) (PlainPair V F T) (PlainTerm V F T) (PlainTypeCase V F T) clause_layer group_var_layer kind_layer pair_key_layer lookup_layer step_layer order_key_layer expr_layer bind_layer case_layer catch_layer factor_layer operand_layer pair_layer term_layer type_case_layer
+  clause_of = fold-Clause V F T (PlainClause V F T) (Form V F T) (PlainPair V F T) (PlainStep V F T) (Tree V F T) (PlainCase V F T) clause_layer kind_layer pair_layer step_layer expr_layer case_layer
 
   unfoldable pub form_of : Kind V F T → Form V F T
-  form_of = fold-Kind V F T (PlainClause V F T) (PlainGroupVar V F T) (Form V F T) (PlainPairKey V F T) (PlainLookup V F T) (PlainStep V F T) (PlainOrderKey V F T) (Tree V F T) (PlainBind V F T) (PlainCase V F T) (PlainCatch V F T) (PlainFactor V F T) (PlainOperand V F T) (PlainPair V F T) (PlainTerm V F T) (PlainTypeCase V F T) clause_layer group_var_layer kind_layer pair_key_layer lookup_layer step_layer order_key_layer expr_layer bind_layer case_layer catch_layer factor_layer operand_layer pair_layer term_layer type_case_layer
-
-  unfoldable pub pair_key_of : PairKey V F T → PlainPairKey V F T
-  pair_key_of = fold-PairKey V F T (PlainClause V F T) (PlainGroupVar V F T) (Form V F T) (PlainPairKey V F T) (PlainLookup V F T) (PlainStep V F T) (PlainOrderKey V F T) (Tree V F T) (PlainBind V F T) (PlainCase V F T) (PlainCatch V F T) (PlainFactor V F T) (PlainOperand V F T) (PlainPair V F T) (PlainTerm V F T) (PlainTypeCase V F T) clause_layer group_var_layer kind_layer pair_key_layer lookup_layer step_layer order_key_layer expr_layer bind_layer case_layer catch_layer factor_layer operand_layer pair_layer term_layer type_case_layer
-
-  unfoldable pub lookup_of : Lookup V F T → PlainLookup V F T
-  lookup_of = fold-Lookup V F T (PlainClause V F T) (PlainGroupVar V F T) (Form V F T) (PlainPairKey V F T) (PlainLookup V F T) (PlainStep V F T) (PlainOrderKey V F T) (Tree V F T) (PlainBind V F T) (PlainCase V F T) (PlainCatch V F T) (PlainFactor V F T) (PlainOperand V F T) (PlainPair V F T) (PlainTerm V F T) (PlainTypeCase V F T) clause_layer group_var_layer kind_layer pair_key_layer lookup_layer step_layer order_key_layer expr_layer bind_layer case_layer catch_layer factor_layer operand_layer pair_layer term_layer type_case_layer
-
-  unfoldable pub step_of : Step V F T → PlainStep V F T
-  step_of = fold-Step V F T (PlainClause V F T) (PlainGroupVar V F T) (Form V F T) (PlainPairKey V F T) (PlainLookup V F T) (PlainStep V F T) (PlainOrderKey V F T) (Tree V F T) (PlainBind V F T) (PlainCase V F T) (PlainCatch V F T) (PlainFactor V F T) (PlainOperand V F T) (PlainPair V F T) (PlainTerm V F T) (PlainTypeCase V F T) clause_layer group_var_layer kind_layer pair_key_layer lookup_layer step_layer order_key_layer expr_layer bind_layer case_layer catch_layer factor_layer operand_layer pair_layer term_layer type_case_layer
-
-  unfoldable pub order_key_of : OrderKey V F T → PlainOrderKey V F T
-  order_key_of = fold-OrderKey V F T (PlainClause V F T) (PlainGroupVar V F T) (Form V F T) (PlainPairKey V F T) (PlainLookup V F T) (PlainStep V F T) (PlainOrderKey V F T) (Tree V F T) (PlainBind V F T) (PlainCase V F T) (PlainCatch V F T) (PlainFactor V F T) (PlainOperand V F T) (PlainPair V F T) (PlainTerm V F T) (PlainTypeCase V F T) clause_layer group_var_layer kind_layer pair_key_layer lookup_layer step_layer order_key_layer expr_layer bind_layer case_layer catch_layer factor_layer operand_layer pair_layer term_layer type_case_layer
-
-  unfoldable pub tree_of : Expr V F T → Tree V F T
-  tree_of = fold-Expr V F T (PlainClause V F T) (PlainGroupVar V F T) (Form V F T) (PlainPairKey V F T) (PlainLookup V F T) (PlainStep V F T) (PlainOrderKey V F T) (Tree V F T) (PlainBind V F T) (PlainCase V F T) (PlainCatch V F T) (PlainFactor V F T) (PlainOperand V F T) (PlainPair V F T) (PlainTerm V F T) (PlainTypeCase V F T) clause_layer group_var_layer kind_layer pair_key_layer lookup_layer step_layer order_key_layer expr_layer bind_layer case_layer catch_layer factor_layer operand_layer pair_layer term_layer type_case_layer
-
-  unfoldable pub bind_of : Bind V F T → PlainBind V F T
-  bind_of = fold-Bind V F T (PlainClause V F T) (PlainGroupVar V F T) (Form V F T) (PlainPairKey V F T) (PlainLookup V F T) (PlainStep V F T) (PlainOrderKey V F T) (Tree V F T) (PlainBind V F T) (PlainCase V F T) (PlainCatch V F T) (PlainFactor V F T) (PlainOperand V F T) (PlainPair V F T) (PlainTerm V F T) (PlainTypeCase V F T) clause_layer group_var_layer kind_layer pair_key_layer lookup_layer step_layer order_key_layer expr_layer bind_layer case_layer catch_layer factor_layer operand_layer pair_layer term_layer type_case_layer
-
-  unfoldable pub case_of : Case V F T → PlainCase V F T
-  case_of = fold-Case V F T (PlainClause V F T) (PlainGroupVar V F T) (Form V F T) (PlainPairKey V F T) (PlainLookup V F T) (PlainStep V F T) (PlainOrderKey V F T) (Tree V F T) (PlainBind V F T) (PlainCase V F T) (PlainCatch V F T) (PlainFactor V F T) (PlainOperand V F T) (PlainPair V F T) (PlainTerm V F T) (PlainTypeCase V F T) clause_layer group_var_layer kind_layer pair_key_layer lookup_layer step_layer order_key_layer expr_layer bind_layer case_layer catch_layer factor_layer operand_layer pair_layer term_layer type_case_layer
-
-  unfoldable pub catch_of : Catch V F T → PlainCatch V F T
-  catch_of = fold-Catch V F T (PlainClause V F T) (PlainGroupVar V F T) (Form V F T) (PlainPairKey V F T) (PlainLookup V F T) (PlainStep V F T) (PlainOrderKey V F T) (Tree V F T) (PlainBind V F T) (PlainCase V F T) (PlainCatch V F T) (PlainFactor V F T) (PlainOperand V F T) (PlainPair V F T) (PlainTerm V F T) (PlainTypeCase V F T) clause_layer group_var_layer kind_layer pair_key_layer lookup_layer step_layer order_key_layer expr_layer bind_layer case_layer catch_layer factor_layer operand_layer pair_layer term_layer type_case_layer
-
-  unfoldable pub factor_of : Factor V F T → PlainFactor V F T
-  factor_of = fold-Factor V F T (PlainClause V F T) (PlainGroupVar V F T) (Form V F T) (PlainPairKey V F T) (PlainLookup V F T) (PlainStep V F T) (PlainOrderKey V F T) (Tree V F T) (PlainBind V F T) (PlainCase V F T) (PlainCatch V F T) (PlainFactor V F T) (PlainOperand V F T) (PlainPair V F T) (PlainTerm V F T) (PlainTypeCase V F T) clause_layer group_var_layer kind_layer pair_key_layer lookup_layer step_layer order_key_layer expr_layer bind_layer case_layer catch_layer factor_layer operand_layer pair_layer term_layer type_case_layer
-
-  unfoldable pub operand_of : Operand V F T → PlainOperand V F T
-  operand_of = fold-Operand V F T (PlainClause V F T) (PlainGroupVar V F T) (Form V F T) (PlainPairKey V F T) (PlainLookup V F T) (PlainStep V F T) (PlainOrderKey V F T) (Tree V F T) (PlainBind V F T) (PlainCase V F T) (PlainCatch V F T) (PlainFactor V F T) (PlainOperand V F T) (PlainPair V F T) (PlainTerm V F T) (PlainTypeCase V F T) clause_layer group_var_layer kind_layer pair_key_layer lookup_layer step_layer order_key_layer expr_layer bind_layer case_layer catch_layer factor_layer operand_layer pair_layer term_layer type_case_layer
+  form_of = fold-Kind V F T (PlainClause V F T) (Form V F T) (PlainPair V F T) (PlainStep V F T) (Tree V F T) (PlainCase V F T) clause_layer kind_layer pair_layer step_layer expr_layer case_layer
 
   unfoldable pub pair_of : Pair V F T → PlainPair V F T
-  pair_of = fold-Pair V F T (PlainClause V F T) (PlainGroupVar V F T) (Form V F T) (PlainPairKey V F T) (PlainLookup V F T) (PlainStep V F T) (PlainOrderKey V F T) (Tree V F T) (PlainBind V F T) (PlainCase V F T) (PlainCatch V F T) (PlainFactor V F T) (PlainOperand V F T) (PlainPair V F T) (PlainTerm V F T) (PlainTypeCase V F T) clause_layer group_var_layer kind_layer pair_key_layer lookup_layer step_layer order_key_layer expr_layer bind_layer case_layer catch_layer factor_layer operand_layer pair_layer term_layer type_case_layer
+  pair_of = fold-Pair V F T (PlainClause V F T) (Form V F T) (PlainPair V F T) (PlainStep V F T) (Tree V F T) (PlainCase V F T) clause_layer kind_layer pair_layer step_layer expr_layer case_layer
 
-  unfoldable pub term_of : Term V F T → PlainTerm V F T
-  term_of = fold-Term V F T (PlainClause V F T) (PlainGroupVar V F T) (Form V F T) (PlainPairKey V F T) (PlainLookup V F T) (PlainStep V F T) (PlainOrderKey V F T) (Tree V F T) (PlainBind V F T) (PlainCase V F T) (PlainCatch V F T) (PlainFactor V F T) (PlainOperand V F T) (PlainPair V F T) (PlainTerm V F T) (PlainTypeCase V F T) clause_layer group_var_layer kind_layer pair_key_layer lookup_layer step_layer order_key_layer expr_layer bind_layer case_layer catch_layer factor_layer operand_layer pair_layer term_layer type_case_layer
+  unfoldable pub step_of : Step V F T → PlainStep V F T
+  step_of = fold-Step V F T (PlainClause V F T) (Form V F T) (PlainPair V F T) (PlainStep V F T) (Tree V F T) (PlainCase V F T) clause_layer kind_layer pair_layer step_layer expr_layer case_layer
 
-  unfoldable pub type_case_of : TypeCase V F T → PlainTypeCase V F T
-  type_case_of = fold-TypeCase V F T (PlainClause V F T) (PlainGroupVar V F T) (Form V F T) (PlainPairKey V F T) (PlainLookup V F T) (PlainStep V F T) (PlainOrderKey V F T) (Tree V F T) (PlainBind V F T) (PlainCase V F T) (PlainCatch V F T) (PlainFactor V F T) (PlainOperand V F T) (PlainPair V F T) (PlainTerm V F T) (PlainTypeCase V F T) clause_layer group_var_layer kind_layer pair_key_layer lookup_layer step_layer order_key_layer expr_layer bind_layer case_layer catch_layer factor_layer operand_layer pair_layer term_layer type_case_layer
+  unfoldable pub tree_of : Expr V F T → Tree V F T
+  tree_of = fold-Expr V F T (PlainClause V F T) (Form V F T) (PlainPair V F T) (PlainStep V F T) (Tree V F T) (PlainCase V F T) clause_layer kind_layer pair_layer step_layer expr_layer case_layer
+
+  unfoldable pub case_of : Case V F T → PlainCase V F T
+  case_of = fold-Case V F T (PlainClause V F T) (Form V F T) (PlainPair V F T) (PlainStep V F T) (Tree V F T) (PlainCase V F T) clause_layer kind_layer pair_layer step_layer expr_layer case_layer
+
+  unfoldable pub group_var_of : Placed V × Option (Expr V F T) → PlainGroupVar V F T
+  group_var_of x = group_var x.0 (option_map (tree_of) x.1)
+
+  unfoldable pub order_key_of : Expr V F T × Bool × Bool → PlainOrderKey V F T
+  order_key_of x = order_key_node (tree_of x.0) x.1 x.2
+
+  unfoldable pub operand_of : ℕ × Expr V F T → PlainOperand V F T
+  operand_of x = operand_node x.0 (tree_of x.1)
+
+  unfoldable pub term_of : SumOp × ℕ × Expr V F T → PlainTerm V F T
+  term_of x = term_node x.0 x.1 (tree_of x.2)
+
+  unfoldable pub factor_of : ProductOp × ℕ × Expr V F T → PlainFactor V F T
+  factor_of x = factor_node x.0 x.1 (tree_of x.2)
+
+  unfoldable pub bind_of : Placed V × Option (Placed T) × Expr V F T → PlainBind V F T
+  bind_of x = bind_node x.0 x.1 (tree_of x.2)
+
+  unfoldable pub type_case_of : Option (Placed V) × Vec (Placed T) Global × Expr V F T → PlainTypeCase V F T
+  type_case_of x = type_case_node x.0 x.1.items (tree_of x.2)
+
+  unfoldable pub catch_of : Placed V × Option (Vec (List ℕ) Global) × Expr V F T → PlainCatch V F T
+  catch_of x = catch_node x.0 (option_map (λ v. v.items) x.1) (tree_of x.2)
 
   abbrev pub maybe_tree_of : Option (Box (Expr V F T) Global) → MaybeTree V F T
   maybe_tree_of None = no_tree

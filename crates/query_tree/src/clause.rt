@@ -42,26 +42,9 @@ pub enum Clause<V, F, T> {
     },
 }
 
-/// A key of a grouping.
-#[cycle(ast)]
-#[derive(Drop)]
-pub enum GroupVar<V, F, T> {
-    /// `$k`: a variable of the stream.
-    Stream {
-        variable: Placed<V>,
-    },
-    /// `$k := e`
-    Computed {
-        variable: Placed<V>,
-        value: Expr<V, F, T>,
-    },
-}
+/// A key of a grouping: `$k := e`, or `$k` with `None`, a variable of the stream.
+pub type GroupVar<V, F, T> = (Placed<V>, Option<Expr<V, F, T>>);
 
-/// A key of an order.
-#[cycle(ast)]
-#[derive(Drop)]
-pub struct OrderKey<V, F, T> {
-    pub value: Expr<V, F, T>,
-    pub descending: bool,
-    pub empty_greatest: bool,
-}
+/// A key of an order: its value, whether the order is descending, and whether the empty sequence is
+/// the greatest.
+pub type OrderKey<V, F, T> = (Expr<V, F, T>, bool, bool);

@@ -15,8 +15,8 @@ pub use expr::{Expr, Kind};
 pub use module::{Function, Module, Param, Variable};
 pub use names::{NamedExpr, Placed, Query, TypeName};
 pub use operator::{CompareOp, ProductOp, Quantifier, SumOp};
-pub use part::{Bind, Case, Catch, Factor, Operand, Pair, PairKey, Term, TypeCase};
-pub use step::{Lookup, Step};
+pub use part::{Bind, Case, Catch, Factor, Operand, Pair, Term, TypeCase};
+pub use step::Step;
 
 #[cfg(test)]
 mod tests;

@@ -13,19 +13,13 @@ pub enum Step<V, F, T> {
     /// `[e]`
     Filter { place: u32, test: Expr<V, F, T> },
     /// `.k`
-    Field { place: u32, key: Lookup<V, F, T> },
-}
-
-/// The key of a look-up in an object.
-#[cycle(ast)]
-#[derive(Drop)]
-pub enum Lookup<V, F, T> {
-    Name { name: Str },
-    Text { value: Str },
-    /// `$x`
-    Var { variable: Placed<V> },
-    /// `$$`
-    Context { place: u32 },
-    /// `(e)`
-    Computed { value: Expr<V, F, T> },
+    NameField { place: u32, name: Str },
+    /// `."k"`
+    TextField { place: u32, value: Str },
+    /// `.$x`
+    VarField { place: u32, variable: Placed<V> },
+    /// `.$$`; `at` is the place of `$$`.
+    ContextField { place: u32, at: u32 },
+    /// `.(e)`
+    ComputedField { place: u32, value: Expr<V, F, T> },
 }
