@@ -35,7 +35,7 @@ pub type Catch<V, F, T> = (Placed<V>, Option<Vec<Str>>, Expr<V, F, T>);
 #[cycle(ast)]
 #[derive(Drop)]
 pub enum Pair<V, F, T> {
-    /// `k : e`, or `"k" : e`: the key is a name that stands for itself.
+    /// `k : e`, where the key is a name that stands for itself.
     Named {
         name: Str,
         place: u32,
