@@ -1,0 +1,4 @@
+pub mod Productions
+pub mod WordLemmas
+pub mod Texts
+pub mod OneReading

@@ -1,0 +1,5 @@
+use Rattle.query_grammar.proofs.Texts.{one_tree}
+use Rattle.query_grammar.proofs.laws.one_tree.Goals as goal
+
+pub returns : goal.returns
+returns c = one_tree

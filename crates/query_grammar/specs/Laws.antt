@@ -1,0 +1,23 @@
+-- Laws of the grammar and of its words.
+use Rattle.std.specs.Prelude.{◌≡◌, ◌⊎◌, ℕ, List}
+use Rattle.item_tree.specs.declared.code.Code.{Code}
+use Rattle.query_lexer.specs.declared.token.Token.{Token}
+use Rattle.query_grammar.specs.declared.word.Word.{Word}
+use Rattle.query_grammar.specs.Nodes.{Module}
+use Rattle.query_grammar.specs.Words.{AreWords}
+use Rattle.query_grammar.specs.Texts.{Derives, IsRefused}
+
+abbrev pub HasOneTree : List Word → Type 0
+HasOneTree words = (tree other : Module) → Derives words tree → Derives words other → tree ≡ other
+
+abbrev pub IsDecided : List Word → ℕ → Type 0
+IsDecided words end = ((tree : Module) × Derives words tree) ⊎ ((code : Code) × (place : ℕ) × IsRefused words end code place)
+
+abbrev pub HasOneRefusal : List Word → ℕ → Type 0
+HasOneRefusal words end = (code other : Code) (place elsewhere : ℕ) → IsRefused words end code place → IsRefused words end other elsewhere → (code ≡ other) × (place ≡ elsewhere)
+
+abbrev pub IsNeverBoth : List Word → ℕ → Type 0
+IsNeverBoth words end = (tree : Module) (code : Code) (place : ℕ) → Derives words tree → IsRefused words end code place → ⊥
+
+abbrev pub HasOneReading : List ℕ → List Token → Type 0
+HasOneReading text tokens = (words others : List Word) → AreWords text tokens words → AreWords text tokens others → words ≡ others

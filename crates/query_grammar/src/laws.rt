@@ -1,0 +1,25 @@
+//! Laws of the grammar. Each holds of all lists of words: a call brings it to a proof, and does
+//! nothing when it runs.
+
+ghost use Rattle.std.specs.Prelude.{ℕ, List};
+ghost use Rattle.query_lexer.specs.declared.token.Token.{Token};
+ghost use Rattle.query_grammar.specs.declared.word.Word.{Word};
+ghost use Rattle.query_grammar.specs.Laws.{HasOneTree, IsDecided, HasOneRefusal, IsNeverBoth, HasOneReading};
+
+/// A list of words derives at most one tree.
+pub fn one_tree()
+    ensures { (words : List Word) → HasOneTree words }
+{}
+
+/// A list of words derives a tree or is refused, and never both. Place and code of a refusal are
+/// one. `end` is the place behind the last word.
+pub fn tree_or_refusal()
+    ensures either { (words : List Word) → (end : ℕ) → IsDecided words end }
+    ensures not_both { (words : List Word) → (end : ℕ) → IsNeverBoth words end }
+    ensures one { (words : List Word) → (end : ℕ) → HasOneRefusal words end }
+{}
+
+/// The tokens of a text are the words of at most one list.
+pub fn one_reading()
+    ensures { (text : List ℕ) → (tokens : List Token) → HasOneReading text tokens }
+{}
