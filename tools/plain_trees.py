@@ -2,19 +2,16 @@
 """Writes the mechanical part of the crate query_tree from the types of its trees.
 
 The trees of src/ hold boxes and vectors, which say where they lie in memory. A definition speaks of
-their plain values. This script reads the types under `#[cycle(ast)]`, and the tuples that hold one
-of them beside other parts, and writes
+their plain values. This script reads the types under `#[cycle(ast)]`, which lead back to one another,
+and the parts, which are over the type `E` of the expressions that they hold. It writes
 
-- specs/Plain.antt: a plain type for each of them, with a constructor for each variant, struct or
-  tuple, and the plain value of each tree, made by the generated fold;
+- specs/Plain.antt: a plain type for each of them, with a constructor for each variant or struct, and
+  the plain value of each tree, made by the generated fold;
 - proofs/Folds.antt: what a fold gives at a node that is known;
-- proofs/Layers.antt: the plain value at each variant, struct and tuple, in one ruleset `layers`.
-
-The cycle has few types, since the proof of what drops a tree costs about the cube of their number. So
-a part that stands in lists alone, and holds one tree, is a tuple, which is no type of the cycle.
+- proofs/Layers.antt: the plain value at each variant, and of an `Expr`, in one ruleset `layers`.
 
 A new variant needs no more than its lines in src/, a case of `nesting` in specs/Nesting.antt and a
-run of this script: tools/plain_trees.py. A new tuple needs the names of its parts below too.
+run of this script: tools/plain_trees.py
 """
 import re
 from pathlib import Path
@@ -27,43 +24,17 @@ PLAIN = {"Expr": "Tree", "Kind": "Form"}
 # Types that stand for plain values, or are plain.
 LEAVES = {"u32": "ℕ", "bool": "Bool", "Str": "List ℕ", "Whole": "ℤ", "Units": "ℤ", "V": "V", "F": "F", "T": "T"}
 
-# The names of a tuple's parts, in order.
-PARTS = {
-    "Bind": "variable of source",
-    "Catch": "error codes body",
-    "Factor": "op place value",
-    "GroupVar": "variable value",
-    "Operand": "place value",
-    "OrderKey": "value descending empty_greatest",
-    "Term": "op place value",
-    "TypeCase": "variable types result",
-}
-# Plain types that differ from those of src/: (module, is an enum, [(variant, [(field, type)])]).
-APART = {
-    "GroupVar": ("clause", True, [("Stream", [("variable", "Placed<V>")]), ("Computed", [("variable", "Placed<V>"), ("value", "Expr<V,F,T>")])]),
-    "PairKey": ("part", True, [("Name", [("name", "Str")]), ("Computed", [("value", "Expr<V,F,T>")])]),
-    "Pair": ("part", False, [("Pair", [("key", "PairKey<V,F,T>"), ("place", "u32"), ("value", "Expr<V,F,T>")])]),
-    "Lookup": ("step", True, [("Name", [("name", "Str")]), ("Text", [("value", "Str")]), ("Var", [("variable", "Placed<V>")]), ("Context", [("place", "u32")]), ("Computed", [("value", "Expr<V,F,T>")])]),
-    "Step": ("step", True, [("Members", [("place", "u32")]), ("Member", [("place", "u32"), ("position", "Expr<V,F,T>")]), ("Filter", [("place", "u32"), ("test", "Expr<V,F,T>")]), ("Field", [("place", "u32"), ("key", "Lookup<V,F,T>")])]),
-}
-# The plain value of a variant that has no constructor of its own.
-MADE = {
-    ("Pair", "Named"): "pair_node (name_pair_key {name}) {place} {value}",
-    ("Pair", "Computed"): "pair_node (computed_pair_key {key}) {place} {value}",
-    ("Step", "NameField"): "field_step {place} (name_lookup {name})",
-    ("Step", "TextField"): "field_step {place} (text_lookup {value})",
-    ("Step", "VarField"): "field_step {place} (var_lookup {variable})",
-    ("Step", "ContextField"): "field_step {place} (context_lookup {at})",
-    ("Step", "ComputedField"): "field_step {place} (computed_lookup {value})",
-}
-
 
 def read_types():
-    """The types of the trees: (name, module, is an enum, [(variant, [(field, type)])])."""
+    """The types of the trees: (name, module, parameters, is an enum, [(variant, [(field, type)])])."""
     types = []
     for path in sorted((CRATE / "src").glob("*.rt")):
         text = re.sub(r"//.*", "", path.read_text())
-        for match in re.finditer(r"#\[cycle\(ast\)\]\s*#\[derive\(Drop\)\]\s*pub (enum|struct) (\w+)<V, F, T> \{", text):
+        for match in re.finditer(r"#\[derive\(Drop\)\]\s*pub (enum|struct) (\w+)<([^>]*)> \{", text):
+            parameters = match[3].replace(" ", "").split(",")
+            in_knot = text[: match.start()].rstrip().endswith("#[cycle(ast)]")
+            if not in_knot and parameters[-1] != "E":
+                continue
             body, depth, at = "", 1, match.end()
             while depth:
                 depth += {"{": 1, "}": -1}.get(text[at], 0)
@@ -73,50 +44,36 @@ def read_types():
                 variants = [(match[2], read_fields(body))]
             else:
                 variants = [(v, read_fields(fields or "")) for v, fields in re.findall(r"(\w+)(?:\s*\{([^}]*)\})?\s*(?:,|$)", body.strip())]
-            types.append((match[2], path.stem, match[1] == "enum", variants))
+            types.append((match[2], path.stem, parameters, match[1] == "enum", variants))
     return types
 
 
-def read_tuples():
-    """The tuples that hold a tree: (name, module, [(part, type)])."""
-    found = []
-    for path in sorted((CRATE / "src").glob("*.rt")):
-        text = re.sub(r"//.*", "", path.read_text())
-        for name, body in re.findall(r"pub type (\w+)<V, F, T> = \(([^;]*)\);", text):
-            kinds = [re.sub(r"\s+", "", kind) for kind in split(body)]
-            found.append((name, path.stem, list(zip(PARTS[name].split(), kinds, strict=True))))
-    return found
-
-
-def split(body):
-    """What stands between the commas."""
-    words, depth, word = [], 0, ""
+def read_fields(body):
+    fields, depth, word = [], 0, ""
     for c in body + ",":
         if c == "," and depth == 0:
-            words += [word] if word.strip() else []
+            if word.strip():
+                name, kind = word.replace("pub ", "").split(":", 1)
+                fields.append((name.strip(), re.sub(r"\s+", "", kind)))
             word = ""
         else:
             depth += {"<": 1, "(": 1, ">": -1, ")": -1}.get(c, 0)
             word += c
-    return words
+    return fields
 
 
-def read_fields(body):
-    fields = [word.replace("pub ", "").split(":", 1) for word in split(body)]
-    return [(name.strip(), re.sub(r"\s+", "", kind)) for name, kind in fields]
-
-
+EXPR = "Expr<V,F,T>"
 TYPES = read_types()
-NAMES = [name for name, _, _, _ in TYPES]
-MODULE = {name: module for name, module, _, _ in TYPES}
-ENUMS = {name for name, _, is_enum, _ in TYPES if is_enum}
-VARIANTS = {name: variants for name, _, _, variants in TYPES}
-TUPLES = {name: parts for name, _, parts in read_tuples()}
-# The plain types, and of them those with more than one constructor.
-MIRRORS = {name: (module, is_enum, variants) for name, module, is_enum, variants in TYPES}
-MIRRORS |= {name: (module, False, [(name, parts)]) for name, module, parts in read_tuples()}
-MIRRORS |= APART
-CHOICES = {name for name, (_, is_enum, _) in MIRRORS.items() if is_enum}
+NAMES = [name for name, _, _, _, _ in TYPES]
+MODULE = {name: module for name, module, _, _, _ in TYPES}
+ENUMS = {name for name, _, _, is_enum, _ in TYPES if is_enum}
+VARIANTS = {
+    name: [(v, [(f, re.sub(r"\bE\b", EXPR, k)) for f, k in fields]) for v, fields in variants]
+    for name, _, _, _, variants in TYPES
+}
+# the parts, with their parameters before the type of expressions; one that holds another comes later
+PARTS = {name: parameters[:-1] for name, _, parameters, _, _ in TYPES if parameters[-1] == "E"}
+PARTS = dict(sorted(PARTS.items(), key=lambda p: any(k.split("<")[0] in PARTS for _, fs in VARIANTS[p[0]] for _, k in fs)))
 
 
 def snake(name):
@@ -138,15 +95,7 @@ def value_of(name):
 
 def constructor(name, variant):
     word = snake(PLAIN.get(name, name))
-    return f"{snake(variant)}_{word}" if name in CHOICES else f"{word}_node"
-
-
-def made(name, variant, values):
-    """The plain value of a node, from those of its fields."""
-    values = {field: atom(value) for field, value in values.items()}
-    if (name, variant) in MADE:
-        return MADE[name, variant].format(**values)
-    return " ".join([constructor(name, variant), *values.values()])
+    return f"{snake(variant)}_{word}" if name in ENUMS else f"{word}_node"
 
 
 def list_type(name):
@@ -171,15 +120,18 @@ def inner(kind, outer):
 
 
 def tree(kind):
-    """The type of a tree that this field holds."""
-    match = re.fullmatch(r"(\w+)<V,F,T>", kind)
-    return match[1] if match and match[1] in MIRRORS else None
+    """The type of a tree, or of a part, that this field holds."""
+    match = re.fullmatch(r"(\w+)<(.*)>", kind)
+    return match[1] if match and match[1] in NAMES and kind == rust_type(match[1]) else None
 
 
-def tuples(kind):
-    """The tuple that this field holds a list of."""
-    held = inner(kind, "Vec")
-    return tree(held) if held and tree(held) in TUPLES else None
+def rust_type(name):
+    return f"{name}<{','.join(PARTS[name] + [EXPR])}>" if name in PARTS else f"{name}<V,F,T>"
+
+
+def part_type(name, held):
+    """A part over this type of expressions, as contracts see it."""
+    return " ".join([name] + PARTS[name] + [held])
 
 
 def atom(text):
@@ -216,8 +168,8 @@ def plain_field(kind):
 
 def declared(kind):
     """The type of a field as contracts see it."""
-    if tree(kind) in TUPLES:
-        return declared_tuple(tree(kind))
+    if tree(kind) in PARTS:
+        return part_type(tree(kind), "(Expr V F T)")
     if tree(kind):
         return tree(kind) + " V F T"
     for outer in ("Box", "Vec"):
@@ -228,13 +180,10 @@ def declared(kind):
     return leaf(kind)
 
 
-def declared_tuple(name, expr="Expr V F T"):
-    """The type of a tuple as contracts see it, with this type in place of an expression."""
-    return " × ".join(declared(kind).replace("Expr V F T", expr) for _, kind in TUPLES[name])
-
-
 def converted(kind, x, layer):
     """The plain value of the field x; in a layer its trees are plain already."""
+    if tree(kind) in PARTS and layer:
+        return f"{snake(tree(kind))}_layer {x}"
     if tree(kind):
         return x if layer else f"{value_of(tree(kind))} V F T {x}"
     if inner(kind, "Box"):
@@ -245,36 +194,25 @@ def converted(kind, x, layer):
             return f"maybe_tree {x}" if layer else f"maybe_tree_of V F T {x}"
         if inner(held, "Vec"):
             return f"option_map (λ v. v.items) {x}"
-        if tree(held) and not layer:
-            return f"option_map ({value_of(tree(held))} V F T) {x}"
         return x
     if inner(kind, "Vec"):
         held = tree(inner(kind, "Vec"))
         if not held:
             return x + ".items"
+        if layer and held in PARTS:
+            return f"{list_of(held)} (map {snake(held)}_layer {x}.items)"
         if layer:
-            return f"{list_of(held)} {atom(f'map {layer_of(held)} {x}.items') if held in TUPLES else x + '.items'}"
+            return f"{list_of(held)} {x}.items"
         return f"{list_of(held)} V F T (map ({value_of(held)} V F T) {x}.items)"
     return x
 
 
-def layer_of(name):
-    """The function from one layer of a node, whose trees are plain, to its plain value."""
-    return snake(name) + "_layer"
-
-
-def of_parts(name, layer):
-    """The plain value of the tuple x."""
-    values = [atom(converted(kind, f"x.{i}", layer)) for i, (_, kind) in enumerate(TUPLES[name])]
-    return " ".join(["group_var" if name in CHOICES else constructor(name, name), *values])
-
-
 # The generated fold takes the enums first, and then the structs, each in the order of their paths.
-ORDER = sorted(NAMES, key=lambda name: (name not in ENUMS, MODULE[name], name))
-MIRROR_ORDER = sorted(MIRRORS, key=lambda name: (name not in CHOICES, MIRRORS[name][0], name))
-LISTS = [n for n in MIRROR_ORDER if any(inner(k, "Vec") == f"{n}<V,F,T>" for v in VARIANTS.values() for _, fs in v for _, k in fs)]
+ORDER = sorted((n for n in NAMES if n not in PARTS), key=lambda name: (name not in ENUMS, MODULE[name], name))
+ALL = ORDER + list(PARTS)
+LISTS = [n for n in ALL if any(inner(k, "Vec") == rust_type(n) for v in VARIANTS.values() for _, fs in v for _, k in fs)]
 CARRIERS = " ".join(f"({plain(n)} V F T)" for n in ORDER)
-LAYERS = [layer_of(n) for n in ORDER]
+LAYERS = [snake(n) + "_layer" for n in ORDER]
 OTHERS = ["Placed", "CompareOp", "ProductOp", "Quantifier", "SumOp"]
 OTHER_MODULES = {"Placed": "names"}
 
@@ -283,22 +221,27 @@ def imports_of_declared(words):
     lines = []
     for name in ORDER:
         lines.append(f"use Rattle.query_tree.specs.declared.{MODULE[name]}.{name}.{{{', '.join(w.format(name) for w in words)}}}")
-    for name in OTHERS:
-        lines.append(f"use Rattle.query_tree.specs.declared.{OTHER_MODULES.get(name, 'operator')}.{name}.{{{name}}}")
+    for name in list(PARTS) + OTHERS:
+        lines.append(f"use Rattle.query_tree.specs.declared.{MODULE.get(name, OTHER_MODULES.get(name, 'operator'))}.{name}.{{{name}}}")
     return lines
+
+
+def variants_of_parts():
+    return [f"use Rattle.query_tree.specs.declared.{MODULE[n]}.{n}.TheVariants as {snake(n)}" for n in PARTS if n in ENUMS]
 
 
 def write_plain():
     out = [HEAD + "-- Trees as plain values, without where they lie in memory."]
-    out.append("use Rattle.std.specs.Prelude.{ℕ, ℤ, Bool, List, [], ◌∷◌, Option, Some, None, Vec, map, option_map}")
+    out.append("use Rattle.std.specs.Prelude.{ℕ, ℤ, Bool, List, [], ◌∷◌, Option, Some, None, option_map, map}")
     out.append("use Rattle.std.specs.declared.alloc.Global.{Global}")
     out.append("use Rattle.std.specs.declared.boxed.Box.{Box}")
     out += imports_of_declared(["{0}", "{0}-F", "fold-{0}"])
+    out += variants_of_parts()
     out.append(f"use Rattle.query_tree.specs.declared.{MODULE[ORDER[0]]}.{ORDER[0]}.TheOpen as node")
     out += ["", "mutual"]
-    for name in ["Expr"] + [n for n in MIRROR_ORDER if n != "Expr"]:
+    for name in ["Expr"] + [n for n in ALL if n != "Expr"]:
         out.append(f"  pub data {plain(name)} (V F T : Type 0) : Type 0 where")
-        for variant, fields in MIRRORS[name][2]:
+        for variant, fields in VARIANTS[name]:
             parts = "".join(f"({f} : {plain_field(k)}) → " for f, k in fields)
             out.append(f"    {constructor(name, variant)} : {parts}{plain(name)} V F T")
         out.append("")
@@ -319,45 +262,50 @@ def write_plain():
     out.append("  abbrev pub maybe_tree : Option (Box (Tree V F T) Global) → MaybeTree V F T")
     out.append("  maybe_tree None = no_tree")
     out.append("  maybe_tree (Some t) = one_tree t.value")
-    out.append("")
-    out.append("  abbrev pub group_var : Placed V → Option (Tree V F T) → PlainGroupVar V F T")
-    out.append("  group_var variable None = stream_group_var variable")
-    out.append("  group_var variable (Some value) = computed_group_var variable value")
-    for name in TUPLES:
-        out.append("")
-        out.append(f"  abbrev pub {layer_of(name)} : {declared_tuple(name, 'Tree V F T')} → {plain(name)} V F T")
-        out.append(f"  {layer_of(name)} x = {of_parts(name, True)}")
+    for name in PARTS:
+        out += part_values(name, f"{snake(name)}_layer", "(Tree V F T)", True)
     for name in ORDER:
-        layer = layer_of(name)
+        layer = snake(name) + "_layer"
         out.append("")
         out.append(f"  abbrev pub {layer} : {name}-F V F T {CARRIERS} → {plain(name)} V F T")
         for variant, fields in VARIANTS[name]:
             if name in ENUMS:
                 pattern = " ".join([f"node.{opened(name, variant)}"] + [f + "'" for f, _ in fields])
-                values = {f: converted(k, f + "'", True) for f, k in fields}
+                values = [converted(k, f + "'", True) for f, k in fields]
                 pattern = f"({pattern})" if fields else pattern
             else:
                 pattern = "x"
-                values = {f: converted(k, "x." + f, True) for f, k in fields}
-            out.append(f"  {layer} {pattern} = {made(name, variant, values)}")
+                values = [converted(k, "x." + f, True) for f, k in fields]
+            out.append(f"  {layer} {pattern} = {' '.join([constructor(name, variant)] + [atom(v) for v in values])}")
     for name in ORDER:
         out.append("")
         out.append(f"  unfoldable pub {value_of(name)} : {name} V F T → {plain(name)} V F T")
         out.append(f"  {value_of(name)} = fold-{name} V F T {CARRIERS} {' '.join(LAYERS)}")
-    for name in TUPLES:
-        out.append("")
-        out.append(f"  unfoldable pub {value_of(name)} : {declared_tuple(name)} → {plain(name)} V F T")
-        out.append(f"  {value_of(name)} x = {of_parts(name, False).replace(' V F T', '')}")
     out.append("")
     out.append("  abbrev pub maybe_tree_of : Option (Box (Expr V F T) Global) → MaybeTree V F T")
     out.append("  maybe_tree_of None = no_tree")
     out.append("  maybe_tree_of (Some e) = one_tree (tree_of e.value)")
+    for name in PARTS:
+        out += part_values(name, value_of(name), "(Expr V F T)", False)
     (CRATE / "specs/Plain.antt").write_text("\n".join(out) + "\n")
+
+
+def part_values(name, of, held, layer):
+    """The plain value of a part over trees that are plain already, or are not."""
+    out = ["", f"  abbrev pub {of} : {part_type(name, held)} → {plain(name)} V F T"]
+    for variant, fields in VARIANTS[name]:
+        pattern, x = "x", "x.{}"
+        if name in ENUMS:
+            pattern, x = " ".join([f"{snake(name)}.{variant}"] + [f + "'" for f, _ in fields]), "{}'"
+        values = [converted(k, x.format(f), layer) for f, k in fields]
+        values = [atom(re.sub(r"(\w+_of) V F T", r"\1", v).replace("(tree_of)", "tree_of")) for v in values]
+        out.append(f"  {of} {atom(pattern)} = {' '.join([constructor(name, variant)] + values)}")
+    return out
 
 
 def opened(name, variant):
     """A variant's name where one layer is opened: two types with one variant of a name say whose it is."""
-    once = sum(variant == v for n in ENUMS for v, _ in VARIANTS[n]) == 1
+    once = sum(variant == v for n in ENUMS if n not in PARTS for v, _ in VARIANTS[n]) == 1
     return variant if once else f"{name}::{variant}"
 
 
@@ -392,23 +340,62 @@ def write_folds():
     (CRATE / "proofs/Folds.antt").write_text("\n".join(out).rstrip() + "\n")
 
 
-def one_map(name, x, whole):
-    """A proof that this whole is the same for the tuples r with their trees made plain first, and at once."""
-    if name in CHOICES:
-        return f"ap (λ (r : List ({plain(name)} V F T)). {whole}) (group_vars_made _ (λ v. refl) (λ v e. refl) {x}.items)"
-    parts = [converted(kind, f"x.{i}", False) if "<V,F,T>" in kind else f"x.{i}" for i, (_, kind) in enumerate(TUPLES[name])]
-    folded = f"(λ (x : {declared_tuple(name)}). ({', '.join(parts)}))"
-    return f"ap (λ (r : List ({plain(name)} V F T)). {whole}) (map-map ({layer_of(name)} V F T) {folded} {x}.items)"
+def one_map(made, fields):
+    """The step from two maps over a list of parts to one."""
+    at = [i for i, (_, k) in enumerate(fields) if tree(inner(k, "Vec") or "") in PARTS]
+    if not at:
+        return ""
+    name = tree(inner(fields[at[0]][1], "Vec"))
+    values = [atom(converted(k, f + "'", False)) for f, k in fields]
+    values[at[0]] = f"({list_of(name)} V F T xs)"
+    field = fields[at[0]][0] + "'.items"
+    layer, of = f"({snake(name)}_layer V F T)", f"({value_of(name)} V F T)"
+    return f" ∙ ap (λ xs. {' '.join([made] + values)}) (map_same _ {layer} {of} {same_part(name)} {field})"
+
+
+def same_part(name):
+    """That a part over plain trees has the plain value of the part."""
+    if name not in ENUMS:
+        return "(λ x. refl)"
+    cases = " ".join(f"(λ {' '.join(x for x, _ in variables)}. refl)" for _, variables in patterns(name, "'"))
+    return f"({snake(name)}_same _ {cases})"
+
+
+def patterns(name, tick):
+    """The patterns of a part, down to the parts in it, each with its variables and their types."""
+    found = []
+    for variant, fields in VARIANTS[name]:
+        rows = [(f"{snake(name)}.{variant}", [])]
+        for f, k in fields:
+            if tree(k) in PARTS and tree(k) in ENUMS:
+                inside = [(f"({p})", variables) for p, variables in patterns(tree(k), tick + "'")]
+            else:
+                inside = [(f + tick, [(f + tick, declared(k))])]
+            rows = [(row + " " + p, variables + more) for row, variables in rows for p, more in inside]
+        found += rows
+    return found
+
+
+def write_same(name):
+    """A part that is moved to plain trees has the same plain value, where it does in each case."""
+    layer, of, rows = f"{snake(name)}_layer V F T", f"{value_of(name)} V F T", patterns(name, "'")
+    moved = f"(move : {part_type(name, '(Expr V F T)')} → {part_type(name, '(Tree V F T)')})"
+    cases = "".join(f"({''.join(f'({x} : {t}) → ' for x, t in variables)}{layer} (move ({p})) ≡ {of} ({p})) → " for p, variables in rows)
+    out = [f"  {snake(name)}_same : {moved} → {cases}(x : {part_type(name, '(Expr V F T)')}) → {layer} (move x) ≡ {of} x"]
+    names = " ".join(f"c{i}" for i in range(len(rows)))
+    for i, (p, variables) in enumerate(rows):
+        out.append(f"  {snake(name)}_same move {names} ({p}) = {' '.join([f'c{i}'] + [x for x, _ in variables])}")
+    return out + [""]
 
 
 def write_layers():
-    values = " ".join(value_of(n) for n in [*ORDER, *TUPLES])
+    values = " ".join(dict.fromkeys(value_of(n) for n in ORDER))
     steps = " ".join(f"({x} V F T)" for x in LAYERS)
     lists = [list_of(n) for n in LISTS]
-    constructors = [constructor(n, v) for n in MIRROR_ORDER for v, _ in MIRRORS[n][2]]
+    made = [constructor(n, v) for n in ORDER for v, _ in VARIANTS[n]]
+    parts = [snake(n) + "_layer" for n in PARTS] + [value_of(n) for n in PARTS]
     out = [HEAD + "-- The plain value of a tree, at each kind of node."]
-    out.append("use Rattle.std.proofs.Common.{◌≡◌, ℕ, ℤ, Bool, List, [], ◌∷◌, Option, Some, None, option_map, map, ap, ◌∙◌, refl}")
-    out.append("use Rattle.std.proofs.lemmas.Simd.{map-map}")
+    out.append("use Rattle.std.proofs.Common.{◌≡◌, ℕ, ℤ, Bool, List, Option, Some, None, option_map, map, refl, ap, ◌∙◌}")
     out.append("use Rattle.std.specs.declared.alloc.Global.{Global}")
     out.append("use Rattle.std.specs.declared.boxed.Box.{Box}")
     out.append("use Rattle.std.specs.Prelude.{Vec}")
@@ -419,24 +406,14 @@ def write_layers():
         out.append(f"use Rattle.query_tree.specs.declared.{MODULE[name]}.{name}.{{{', '.join(words)}}}")
         if name in ENUMS:
             out.append(f"use Rattle.query_tree.specs.declared.{MODULE[name]}.{name}.TheVariants as {snake(name)}")
-    for name in OTHERS:
-        out.append(f"use Rattle.query_tree.specs.declared.{OTHER_MODULES.get(name, 'operator')}.{name}.{{{name}}}")
-    plains = [plain(n) for n in [*ORDER, *TUPLES]]
-    layers = LAYERS + [layer_of(n) for n in TUPLES]
-    out.append(f"use Rattle.query_tree.specs.Plain.{{{', '.join(plains + lists + constructors + layers + values.split() + ['maybe_tree_of'])}}}")
+    for name in list(PARTS) + OTHERS:
+        out.append(f"use Rattle.query_tree.specs.declared.{MODULE.get(name, OTHER_MODULES.get(name, 'operator'))}.{name}.{{{name}}}")
+    plains = [plain(n) for n in ORDER]
+    out.append(f"use Rattle.query_tree.specs.Plain.{{{', '.join(plains + lists + made + LAYERS + parts + values.split() + ['maybe_tree_of'])}}}")
+    out += variants_of_parts()
+    out.append("use Rattle.query_tree.proofs.Maps.{map_same}")
     out.append(f"use Rattle.query_tree.proofs.Folds.{{{', '.join(snake(n) + '_fold' for n in ORDER if n in ENUMS)}}}")
     out += ["", "module _ (V F T : Type 0) where"]
-    before, after = (declared_tuple("GroupVar", of) for of in ("Expr V F T", "Tree V F T"))
-    given = f"(f : {before} → {after}) (absent : (v : Placed V) → f (v, None) ≡ (v, None)) (present : (v : Placed V) (e : Expr V F T) → f (v, Some e) ≡ (v, Some (tree_of V F T e)))"
-    out.append(f"  group_var_made : {given} (x : {before}) → group_var_layer V F T (f x) ≡ group_var_of V F T x")
-    out.append("  unfolding group_var_of")
-    out.append("  group_var_made f absent present (v, None) = ap (group_var_layer V F T) (absent v)")
-    out.append("  group_var_made f absent present (v, Some e) = ap (group_var_layer V F T) (present v e)")
-    out.append("")
-    out.append(f"  group_vars_made : {given} (xs : List ({before})) → map (group_var_layer V F T) (map f xs) ≡ map (group_var_of V F T) xs")
-    out.append("  group_vars_made f absent present [] = refl")
-    out.append("  group_vars_made f absent present (x ∷ xs) = λ i. group_var_made f absent present x i ∷ group_vars_made f absent present xs i")
-    out.append("")
     rules = []
 
     def lemma(name, arguments, left, right, proof):
@@ -454,35 +431,28 @@ def write_layers():
             out.append(f"  {' '.join([name] + words)} = {body}")
         out.append("")
 
+    for name in PARTS:
+        if name in ENUMS and name in LISTS:
+            out += write_same(name)
     for name in ORDER:
         of, word = value_of(name), snake(name)
         for variant, fields in VARIANTS[name]:
+            made = constructor(name, variant)
             if name in ENUMS:
                 arguments = [(f + "'", declared(k)) for f, k in fields]
                 node = " ".join([f"{word}.{variant}"] + [x for x, _ in arguments])
-                values_of = {f: converted(k, f + "'", False) for f, k in fields}
-                right = made(name, variant, values_of)
+                right = " ".join([made] + [atom(converted(k, f + "'", False)) for f, k in fields])
                 outs = " ".join([f"{word}.outs-{variant}"] + [x for x, _ in arguments])
                 proof = f"{word}_fold V F T {CARRIERS} {steps} {atom(node)} _ {atom(outs)}"
-                for f, k in fields:
-                    if tuples(k):
-                        proof += " ∙ " + one_map(tuples(k), f + "'", made(name, variant, values_of | {f: f"{list_of(tuples(k))} V F T r"}))
-                lemma(f"{of}-{variant}", arguments, f"{of} V F T {atom(node)}", right, proof)
+                lemma(f"{of}-{variant}", arguments, f"{of} V F T {atom(node)}", right, proof + one_map(made, fields))
             else:
                 whole = "x" if is_record(fields) else f"(out-{name} V F T x)"
-                right = made(name, variant, {f: converted(k, f"{whole}.{f}", False) for f, k in fields})
+                right = " ".join([made] + [atom(converted(k, f"{whole}.{f}", False)) for f, k in fields])
                 lemma(f"{of}-out", [("x", f"{name} V F T")], f"{of} V F T x", right, f"fold_out-{name} V F T {CARRIERS} {steps} x")
                 arguments = [(f + "'", declared(k)) for f, k in fields]
                 node = "record { " + "; ".join(f"{f} = {f}'" for f, _ in fields) + " }"
-                right = made(name, variant, {f: converted(k, f + "'", False) for f, k in fields})
+                right = " ".join([made] + [atom(converted(k, f + "'", False)) for f, k in fields])
                 lemma(f"{of}-made", arguments, f"{of} V F T (roll-{name} V F T ({node}))", right, f"fold-roll-{name} V F T {CARRIERS} {steps} ({node})")
-    for name in TUPLES:
-        of = value_of(name)
-        if name in CHOICES:
-            lemma(f"{of}-Stream", [("variable'", "Placed V")], f"{of} V F T (variable', None)", "stream_group_var variable'", "refl")
-            lemma(f"{of}-Computed", [("variable'", "Placed V"), ("value'", "Expr V F T")], f"{of} V F T (variable', Some value')", "computed_group_var variable' (tree_of V F T value')", "refl")
-        else:
-            lemma(f"{of}-out", [("x", declared_tuple(name))], f"{of} V F T x", of_parts(name, False), "refl")
     out.append(f"pub ruleset layers = ({', '.join(rules)})")
     (CRATE / "proofs/Layers.antt").write_text("\n".join(out) + "\n")
 

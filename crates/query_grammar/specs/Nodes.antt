@@ -53,8 +53,10 @@ Lookup = p.PlainLookup Name Name TypeName
 abbrev pub Pair : Type 0
 Pair = p.PlainPair Name Name TypeName
 
-abbrev pub PairKey : Type 0
-PairKey = p.PlainPairKey Name Name TypeName
+-- the key of a pair: a name that stands for itself, or an expression
+pub data PairKey : Type 0 where
+  by_name : Name → PairKey
+  by_value : Tree → PairKey
 
 abbrev pub Clause : Type 0
 Clause = p.PlainClause Name Name TypeName
@@ -224,13 +226,14 @@ abbrev pub array : ℕ × Option Tree → Tree
 array z = p.tree_node z.0 (p.array_form (maybe z.1))
 
 abbrev pub name_key : Word × Word → PairKey × ℕ
-name_key z = (p.name_pair_key (name_of z.0), z.1.place)
+name_key z = (by_name (name_of z.0), z.1.place)
 
 abbrev pub computed_key : Tree × Word → PairKey × ℕ
-computed_key z = (p.computed_pair_key z.0, z.1.place)
+computed_key z = (by_value z.0, z.1.place)
 
 abbrev pub pair : (PairKey × ℕ) × Tree → Pair
-pair z = p.pair_node z.0.0 z.0.1 z.1
+pair ((by_name name, place), value) = p.named_pair name place value
+pair ((by_value key, place), value) = p.computed_pair key place value
 
 abbrev pub object : ℕ × List Pair → Tree
 object z = p.tree_node z.0 (p.object_form (p.pairs_of Name Name TypeName z.1))

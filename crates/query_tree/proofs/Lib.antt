@@ -1,4 +1,5 @@
 pub mod Folds
 pub mod Layers
+mod Maps
 mod NestingLaws
 mod NestingRows

@@ -4,7 +4,7 @@
 -- parentheses. An operator adds nothing, and a step doesn't hold the expression before it.
 use Rattle.std.specs.Prelude.{ℕ, ◌+◌, max}
 use Rattle.query_tree.specs.Plain as p
-use Rattle.query_tree.specs.Plain.{Tree, Trees, Form, MaybeTree, PlainOperand, PlainOperands, PlainTerm, PlainTerms, PlainFactor, PlainFactors, PlainBind, PlainBinds, PlainCase, PlainCases, PlainTypeCase, PlainTypeCases, PlainCatch, PlainCatches, PlainPair, PlainPairs, PlainPairKey, PlainStep, PlainSteps, PlainLookup, PlainClause, PlainClauses, PlainGroupVar, PlainGroupVars, PlainOrderKey, PlainOrderKeys}
+use Rattle.query_tree.specs.Plain.{Tree, Trees, Form, MaybeTree, PlainOperand, PlainOperands, PlainTerm, PlainTerms, PlainFactor, PlainFactors, PlainBind, PlainBinds, PlainCase, PlainCases, PlainTypeCase, PlainTypeCases, PlainCatch, PlainCatches, PlainPair, PlainPairs, PlainStep, PlainSteps, PlainLookup, PlainClause, PlainClauses, PlainGroupVar, PlainGroupVars, PlainOrderKey, PlainOrderKeys}
 
 abbrev mutual
   pub nesting : {V F T : Type 0} → Tree V F T → ℕ
@@ -105,15 +105,12 @@ abbrev mutual
   catches_nesting (p.more_catches c cs) = max (catch_nesting c) (catches_nesting cs)
 
   pub pair_nesting : {V F T : Type 0} → PlainPair V F T → ℕ
-  pair_nesting (p.pair_node key place value) = max (key_nesting key) (nesting value)
+  pair_nesting (p.named_pair name place value) = nesting value
+  pair_nesting (p.computed_pair key place value) = max (nesting key) (nesting value)
 
   pub pairs_nesting : {V F T : Type 0} → PlainPairs V F T → ℕ
   pairs_nesting p.no_pairs = 0
   pairs_nesting (p.more_pairs q qs) = max (pair_nesting q) (pairs_nesting qs)
-
-  pub key_nesting : {V F T : Type 0} → PlainPairKey V F T → ℕ
-  key_nesting (p.name_pair_key name) = 0
-  key_nesting (p.computed_pair_key value) = nesting value
 
   pub step_nesting : {V F T : Type 0} → PlainStep V F T → ℕ
   step_nesting (p.members_step place) = 0

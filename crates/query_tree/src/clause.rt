@@ -27,13 +27,13 @@ pub enum Clause<V, F, T> {
     /// `group by $k := e`
     Group {
         place: u32,
-        keys: Vec<GroupVar<V, F, T>>,
+        keys: Vec<GroupVar<V, Expr<V, F, T>>>,
     },
     /// `stable order by e descending empty greatest`
     Order {
         place: u32,
         stable: bool,
-        keys: Vec<OrderKey<V, F, T>>,
+        keys: Vec<OrderKey<Expr<V, F, T>>>,
     },
     /// `count $c`
     Count {
@@ -42,9 +42,19 @@ pub enum Clause<V, F, T> {
     },
 }
 
-/// A key of a grouping: `$k := e`, or `$k` with `None`, a variable of the stream.
-pub type GroupVar<V, F, T> = (Placed<V>, Option<Expr<V, F, T>>);
+/// A key of a grouping.
+#[derive(Drop)]
+pub enum GroupVar<V, E> {
+    /// `$k`: a variable of the stream.
+    Stream { variable: Placed<V> },
+    /// `$k := e`
+    Computed { variable: Placed<V>, value: E },
+}
 
-/// A key of an order: its value, whether the order is descending, and whether the empty sequence is
-/// the greatest.
-pub type OrderKey<V, F, T> = (Expr<V, F, T>, bool, bool);
+/// A key of an order.
+#[derive(Drop)]
+pub struct OrderKey<E> {
+    pub value: E,
+    pub descending: bool,
+    pub empty_greatest: bool,
+}

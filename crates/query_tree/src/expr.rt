@@ -21,7 +21,7 @@ pub enum Kind<V, F, T> {
     /// `a, b`
     Comma {
         first: Box<Expr<V, F, T>>,
-        rest: Vec<Operand<V, F, T>>,
+        rest: Vec<Operand<Expr<V, F, T>>>,
     },
     /// `for .. let .. return e`; `place` is that of `return`.
     Flwor {
@@ -32,19 +32,19 @@ pub enum Kind<V, F, T> {
     /// `some $x in e satisfies test`
     Quant {
         quantifier: Quantifier,
-        binds: Vec<Bind<V, F, T>>,
+        binds: Vec<Bind<V, T, Expr<V, F, T>>>,
         test: Box<Expr<V, F, T>>,
     },
     /// `switch (e) case a return b default return c`
     Switch {
         operand: Box<Expr<V, F, T>>,
-        cases: Vec<Case<V, F, T>>,
+        cases: Vec<Case<Expr<V, F, T>>>,
         default: Box<Expr<V, F, T>>,
     },
     /// `typeswitch (e) case $x as t return b default $y return c`
     Typeswitch {
         operand: Box<Expr<V, F, T>>,
-        cases: Vec<TypeCase<V, F, T>>,
+        cases: Vec<TypeCase<V, T, Expr<V, F, T>>>,
         variable: Option<Placed<V>>,
         default: Box<Expr<V, F, T>>,
     },
@@ -57,17 +57,17 @@ pub enum Kind<V, F, T> {
     /// `try { e } catch * { h }`
     Try {
         body: Box<Expr<V, F, T>>,
-        catches: Vec<Catch<V, F, T>>,
+        catches: Vec<Catch<V, Expr<V, F, T>>>,
     },
     /// `a or b`
     Or {
         first: Box<Expr<V, F, T>>,
-        rest: Vec<Operand<V, F, T>>,
+        rest: Vec<Operand<Expr<V, F, T>>>,
     },
     /// `a and b`
     And {
         first: Box<Expr<V, F, T>>,
-        rest: Vec<Operand<V, F, T>>,
+        rest: Vec<Operand<Expr<V, F, T>>>,
     },
     /// `not a`
     Not {
@@ -83,7 +83,7 @@ pub enum Kind<V, F, T> {
     /// `a || b`
     Concat {
         first: Box<Expr<V, F, T>>,
-        rest: Vec<Operand<V, F, T>>,
+        rest: Vec<Operand<Expr<V, F, T>>>,
     },
     /// `a to b`
     Range {
@@ -94,12 +94,12 @@ pub enum Kind<V, F, T> {
     /// `a + b - c`
     Sum {
         first: Box<Expr<V, F, T>>,
-        rest: Vec<Term<V, F, T>>,
+        rest: Vec<Term<Expr<V, F, T>>>,
     },
     /// `a * b div c`
     Product {
         first: Box<Expr<V, F, T>>,
-        rest: Vec<Factor<V, F, T>>,
+        rest: Vec<Factor<Expr<V, F, T>>>,
     },
     /// `a instance of t`
     Instance {
@@ -133,12 +133,12 @@ pub enum Kind<V, F, T> {
     /// `a ! b`
     Map {
         first: Box<Expr<V, F, T>>,
-        rest: Vec<Operand<V, F, T>>,
+        rest: Vec<Operand<Expr<V, F, T>>>,
     },
     /// `a[b].c[]`
     Postfix {
         primary: Box<Expr<V, F, T>>,
-        steps: Vec<Step<V, F, T>>,
+        steps: Vec<Step<V, Expr<V, F, T>>>,
     },
     Int {
         value: Whole,
@@ -164,7 +164,7 @@ pub enum Kind<V, F, T> {
     },
     /// `{ "a" : 1 }`
     Object {
-        pairs: Vec<Pair<V, F, T>>,
+        pairs: Vec<Pair<Expr<V, F, T>>>,
     },
     /// `{| e |}`
     Merge {

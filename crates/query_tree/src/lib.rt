@@ -16,7 +16,7 @@ pub use module::{Function, Module, Param, Variable};
 pub use names::{NamedExpr, Placed, Query, TypeName};
 pub use operator::{CompareOp, ProductOp, Quantifier, SumOp};
 pub use part::{Bind, Case, Catch, Factor, Operand, Pair, Term, TypeCase};
-pub use step::Step;
+pub use step::{Lookup, Step};
 
 #[cfg(test)]
 mod tests;

@@ -1,4 +1,4 @@
-use crate::{Clause, Expr, Kind, NamedExpr, Placed, Query, SumOp, TypeName};
+use crate::{Clause, Expr, Kind, NamedExpr, Placed, Query, SumOp, Term, TypeName};
 use item_tree::{Str, Whole};
 use seq_types::Times;
 use std::alloc::Global;
@@ -36,7 +36,11 @@ fn chain(alloc: Global, operators: u32) -> Result<NamedExpr, Fail> {
         } else {
             SumOp::Minus
         };
-        rest.push((op, i, number(i, 1)))?;
+        rest.push(Term {
+            op,
+            place: i,
+            value: number(i, 1),
+        })?;
     }
     Ok(Expr {
         place: 0,
