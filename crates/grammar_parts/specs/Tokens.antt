@@ -23,12 +23,6 @@ without c d t = c t && not (d t)
 abbrev pub over : {T K : Type 0} → (T → K) → Class K → Class T
 over kind c t = c (kind t)
 
--- the tokens of the kinds of a list, by the test of a kind
-abbrev pub any_of : {T K : Type 0} → (K → Class T) → List K → Class T
-any_of is [] t = false
-any_of is (k ∷ []) t = is k t
-any_of is (k ∷ j ∷ ks) t = is k t || any_of is (j ∷ ks) t
-
 -- whether the list has a first token, and it is of the class
 abbrev pub sees : {T : Type 0} → Class T → List T → Bool
 sees c [] = false

@@ -1,10 +1,10 @@
 ghost use Rattle.std.specs.Prelude.{◌≡◌, length};
-ghost use Rattle.grammar_parts.specs.Tokens.{any_of, given, rest_of, sees, sees_two};
+ghost use Rattle.grammar_parts.specs.Tokens.{given, rest_of, sees, sees_two};
 ghost use Rattle.grammar_parts.specs.Readers.{taken, take_where};
 ghost use Rattle.grammar_parts.specs.Reads.{ReadsAs};
 ghost use Rattle.grammar_parts.specs.declared.cursor.Stop.TheVariants.{NoMemory};
 
-use crate::token::Token;
+use crate::token::TokenClass;
 use std::alloc::{AllocError, AllocFailed};
 
 /// Why reading stopped.
@@ -38,7 +38,7 @@ pub struct Cursor<'a, T> {
     pub rest: &'a [T],
 }
 
-impl<'a, T: Token> Cursor<'a, T> {
+impl<'a, T> Cursor<'a, T> {
     /// How many tokens are left.
     pub fn left(&self) -> usize
         ensures { result ≡ length self.now.rest.now }
@@ -46,42 +46,32 @@ impl<'a, T: Token> Cursor<'a, T> {
         self.rest.len()
     }
 
-    /// Whether the next token is of this kind.
-    pub fn sees(&self, kind: T::Kind) -> bool
-        ensures { result ≡ sees (T.is kind) self.now.rest.now }
+    /// Whether the next token is of this class.
+    pub fn sees<C: TokenClass<T>>(&self, class: C) -> bool
+        ensures { result ≡ sees (C.takes class) self.now.rest.now }
     {
         match self.rest {
-            [first, ..] => first.is(kind),
+            [first, ..] => class.takes(first),
             [] => false,
         }
     }
 
-    /// Whether the next token is of this kind, where that is allowed.
-    pub fn sees_if(&self, allowed: bool, kind: T::Kind) -> bool
-        ensures { result ≡ sees (given allowed (T.is kind)) self.now.rest.now }
+    /// Whether the next token is of this class, where that is allowed.
+    pub fn sees_if<C: TokenClass<T>>(&self, allowed: bool, class: C) -> bool
+        ensures { result ≡ sees (given allowed (C.takes class)) self.now.rest.now }
     {
         match self.rest {
-            [first, ..] => allowed && first.is(kind),
+            [first, ..] => allowed && class.takes(first),
             [] => false,
         }
     }
 
-    /// Whether the next token is of one of these kinds.
-    pub fn sees_any(&self, kinds: &[T::Kind]) -> bool
-        ensures { result ≡ sees (any_of T.is kinds.now) self.now.rest.now }
+    /// Whether the next two tokens are of these classes.
+    pub fn sees_two<C: TokenClass<T>, D: TokenClass<T>>(&self, first: C, second: D) -> bool
+        ensures { result ≡ sees_two (C.takes first) (D.takes second) self.now.rest.now }
     {
         match self.rest {
-            [first, ..] => is_any(first, kinds),
-            [] => false,
-        }
-    }
-
-    /// Whether the next two tokens are of these kinds.
-    pub fn sees_two(&self, first: T::Kind, second: T::Kind) -> bool
-        ensures { result ≡ sees_two (T.is first) (T.is second) self.now.rest.now }
-    {
-        match self.rest {
-            [a, b, ..] => a.is(first) && b.is(second),
+            [a, b, ..] => first.takes(a) && second.takes(b),
             _ => false,
         }
     }
@@ -99,11 +89,11 @@ impl<'a, T: Token> Cursor<'a, T> {
         }
     }
 
-    /// Takes a token of this kind.
-    pub fn expect(&mut self, kind: T::Kind) -> Result<&'a T, Stop>
-        ensures { ReadsAs (λ t. t.now) (take_where (T.is kind) self.old.rest.now) result self.new.rest.now }
+    /// Takes a token of this class.
+    pub fn expect<C: TokenClass<T>>(&mut self, class: C) -> Result<&'a T, Stop>
+        ensures { ReadsAs (λ t. t.now) (take_where (C.takes class) self.old.rest.now) result self.new.rest.now }
     {
-        self.take(self.sees(kind))
+        self.take(self.sees(class))
     }
 
     /// Passes a token, if there is one.
@@ -113,16 +103,5 @@ impl<'a, T: Token> Cursor<'a, T> {
         if let [_, rest @ ..] = self.rest {
             self.rest = rest;
         }
-    }
-}
-
-/// Whether a token is of one of these kinds.
-fn is_any<T: Token>(token: &T, kinds: &[T::Kind]) -> bool
-    ensures { result ≡ any_of T.is kinds.now token.now }
-{
-    match kinds {
-        [] => false,
-        [kind] => token.is(*kind),
-        [kind, others @ ..] => token.is(*kind) || is_any(token, others),
     }
 }

@@ -71,7 +71,8 @@
 //! }
 //! ```
 //!
-//! A repetition calls [`repeat`], and its one answer is `repeated_reads` of `proofs/TurnLemmas.antt`.
+//! A repetition calls [`repeat`], [`repeat_some`] or [`list`], and its one answer is `repeated_reads`,
+//! `some_reads` or `list_reads` of `proofs/TurnLemmas.antt`.
 #![tactic(auto)]
 
 mod cursor;
@@ -80,8 +81,8 @@ mod repetition;
 mod token;
 
 pub use cursor::{Cursor, Stop};
-pub use repetition::repeat;
-pub use token::Token;
+pub use repetition::{list, repeat, repeat_some};
+pub use token::TokenClass;
 
 #[cfg(test)]
 mod tests;

@@ -9,7 +9,7 @@
 ghost use denote.Enum.Bare.{sameb};
 ghost use Rattle.grammar_parts.specs.contracts.tests.Kind.{the_type};
 
-use crate::{Cursor, Stop, Token, repeat};
+use crate::{Cursor, Stop, TokenClass, list, repeat, repeat_some};
 use std::alloc::{AllocError, Global};
 use std::test::Fail;
 
@@ -31,13 +31,11 @@ struct Word {
     value: u64,
 }
 
-impl Token for Word {
-    type Kind = Kind;
+impl TokenClass<Word> for Kind {
+    ghost takes = { λ kind word. sameb the_type word.kind kind };
 
-    ghost is = { λ kind word. sameb the_type word.kind kind };
-
-    fn is(&self, kind: Kind) -> bool {
-        self.kind == kind
+    fn takes(self, word: &Word) -> bool {
+        word.kind == self
     }
 }
 
@@ -80,7 +78,7 @@ fn more_numbers(alloc: Global, cursor: &mut Cursor<'_, Word>) -> Result<Vec<u64>
         at.expect(Kind::Plus)?;
         number(at)
     };
-    repeat(alloc, &[Kind::Plus], next, cursor)
+    repeat(alloc, Kind::Plus, next, cursor)
 }
 
 fn atom(alloc: Global, room: bool, cursor: &mut Cursor<'_, Word>) -> Result<u64, Stop> {
@@ -99,14 +97,14 @@ fn more_atoms(alloc: Global, room: bool, cursor: &mut Cursor<'_, Word>) -> Resul
         at.expect(Kind::Plus)?;
         atom(alloc, room, at)
     };
-    repeat(alloc, &[Kind::Plus], next, cursor)
+    repeat(alloc, Kind::Plus, next, cursor)
 }
 
 fn item(alloc: Global, room: bool, cursor: &mut Cursor<'_, Word>) -> Result<u64, Stop> {
     if cursor.sees_two(Kind::Name, Kind::Colon) {
         cursor.skip();
         cursor.skip();
-    } else if cursor.sees_any(&[Kind::Name, Kind::Colon]) {
+    } else if cursor.sees(Kind::Name) || cursor.sees(Kind::Colon) {
         cursor.take(cursor.sees(Kind::Name))?;
         return Err(Stop::Refused);
     }
@@ -115,15 +113,8 @@ fn item(alloc: Global, room: bool, cursor: &mut Cursor<'_, Word>) -> Result<u64,
     Ok(sum_of(first, &more))
 }
 
-fn list(alloc: Global, room: bool, cursor: &mut Cursor<'_, Word>) -> Result<Vec<u64>, Stop> {
-    let first = item(alloc, room, cursor)?;
-    let next = |at: &mut Cursor<'_, Word>| -> Result<u64, Stop> {
-        at.expect(Kind::Comma)?;
-        item(alloc, room, at)
-    };
-    let mut found = repeat(alloc, &[Kind::Comma], next, cursor)?;
-    found.insert(0, first)?;
-    Ok(found)
+fn items(alloc: Global, room: bool, cursor: &mut Cursor<'_, Word>) -> Result<Vec<u64>, Stop> {
+    list(alloc, Kind::Comma, |at| item(alloc, room, at), cursor)
 }
 
 #[test]
@@ -139,7 +130,7 @@ fn reads_what_is_whole(rt: HostRuntime) -> Result<(), Fail> {
     for (text, want) in rows {
         let words = words(rt.alloc(), text)?;
         let mut cursor = Cursor { rest: &words };
-        match list(rt.alloc(), true, &mut cursor) {
+        match items(rt.alloc(), true, &mut cursor) {
             Ok(values) => assert_eq!(rt; values.as_slice(), want, "at {text}"),
             Err(_) => assert!(rt; false, "at {text}"),
         }
@@ -167,7 +158,7 @@ fn stops_at_the_first_word_that_no_beginning_has(rt: HostRuntime) -> Result<(), 
     ] {
         let words = words(rt.alloc(), text)?;
         let mut cursor = Cursor { rest: &words };
-        let refused = list(rt.alloc(), room, &mut cursor).is_err();
+        let refused = items(rt.alloc(), room, &mut cursor).is_err();
         assert!(rt; refused, "at {text}");
         assert_eq!(rt; cursor.left(), left, "at {text}");
     }
@@ -179,9 +170,32 @@ fn leaves_what_goes_on_with_nothing(rt: HostRuntime) -> Result<(), Fail> {
     for (text, left) in [("1)", 1), ("1 2", 2), ("1,2:3", 2), ("(1)(2)", 3)] {
         let words = words(rt.alloc(), text)?;
         let mut cursor = Cursor { rest: &words };
-        let read = list(rt.alloc(), true, &mut cursor).is_ok();
+        let read = items(rt.alloc(), true, &mut cursor).is_ok();
         assert!(rt; read, "at {text}");
         assert_eq!(rt; cursor.left(), left, "at {text}");
     }
+    Ok(())
+}
+
+#[test]
+fn reads_some_while_the_class_is_next(rt: HostRuntime) -> Result<(), Fail> {
+    let rows: [(&str, &[u64], usize); 3] = [
+        ("1", &[1], 0),
+        ("123", &[1, 2, 3], 0),
+        ("12+3", &[1, 2], 2),
+    ];
+    for (text, want, left) in rows {
+        let words = words(rt.alloc(), text)?;
+        let mut cursor = Cursor { rest: &words };
+        match repeat_some(rt.alloc(), Kind::Number, |at| number(at), &mut cursor) {
+            Ok(values) => assert_eq!(rt; values.as_slice(), want, "at {text}"),
+            Err(_) => assert!(rt; false, "at {text}"),
+        }
+        assert_eq!(rt; cursor.left(), left, "at {text}");
+    }
+    let words = words(rt.alloc(), "+1")?;
+    let mut cursor = Cursor { rest: &words };
+    assert!(rt; repeat_some(rt.alloc(), Kind::Number, |at| number(at), &mut cursor).is_err());
+    assert_eq!(rt; cursor.left(), 2);
     Ok(())
 }

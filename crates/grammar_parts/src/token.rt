@@ -1,13 +1,10 @@
 ghost use Rattle.std.specs.Prelude.{◌≡◌, Bool};
 
-/// A token of a language. The laws speak of classes of tokens, which are told apart by their kinds.
-pub trait Token {
-    /// An enum with a variant for each kind of tokens: each keyword, each mark and each other kind.
-    type Kind: Copy;
+/// A class of tokens: those that a place of a grammar takes.
+pub trait TokenClass<T>: Copy {
+    ghost takes: { Self → T → Bool };
 
-    ghost is: { Self.Kind → Self → Bool };
-
-    /// Whether the token is of this kind.
-    fn is(&self, kind: Self::Kind) -> bool
-        ensures { result ≡ is kind self.now };
+    /// Whether the token is of the class.
+    fn takes(self, token: &T) -> bool
+        ensures { result ≡ takes self token.now };
 }

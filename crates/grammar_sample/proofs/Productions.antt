@@ -7,11 +7,11 @@ use Rattle.grammar_sample.specs.declared.word.Word.{Word}
 use Rattle.grammar_sample.specs.declared.tree.Tree.{Tree}
 use Rattle.grammar_sample.specs.declared.reader.Inner.{Inner as Name}
 use Rattle.grammar_sample.specs.declared.reader.Inner.TheVariants as i
-use Rattle.grammar_parts.specs.Tokens.{Class, never, either, given, any_of, without}
+use Rattle.grammar_parts.specs.Tokens.{Class, never, either, given, without}
 use Rattle.grammar_parts.proofs.AllKinds.{kinds_of}
 use Rattle.grammar_parts.proofs.Modes.{Language, Set, named, one_at, only_at, unless_at, mapped_at, alt_at, opt_at, seq_at, behind_at, long_at, many_at, many_long_at, ahead_at}
 use Rattle.grammar_parts.proofs.Levels.{Sets, Ground, Law, LawInside, Lawful}
-use Rattle.grammar_sample.specs.Words.{is}
+use Rattle.grammar_sample.specs.Words.{is, any_of}
 use Rattle.grammar_sample.specs.Grammar.{int_kind, atom_first, single_first, step}
 use Rattle.grammar_sample.specs.Grammar as g
 
@@ -37,10 +37,10 @@ abbrev atom_set : Set Kind
 atom_set = λ m. atom_first m.wide m.room
 
 abbrev pub plus_or_is : Class Kind
-plus_or_is = any_of is (k.Is ∷ k.Plus ∷ k.LBracket ∷ [])
+plus_or_is = any_of (k.Is ∷ k.Plus ∷ k.LBracket ∷ [])
 
 abbrev pub plus_is_comma : Class Kind
-plus_is_comma = any_of is (k.Is ∷ k.Plus ∷ k.LBracket ∷ k.Comma ∷ [])
+plus_is_comma = any_of (k.Is ∷ k.Plus ∷ k.LBracket ∷ k.Comma ∷ [])
 
 abbrev pub ext_of : Name → Class Kind
 ext_of i.Expr = plus_is_comma

@@ -9,16 +9,20 @@ use Rattle.grammar_sample.specs.declared.tree.Step.{Step}
 use Rattle.grammar_sample.specs.declared.tree.Step.TheVariants as s
 use Rattle.grammar_sample.specs.declared.reader.Inner.{Inner as Name}
 use Rattle.grammar_sample.specs.declared.reader.Inner.TheVariants as i
-use Rattle.grammar_parts.specs.Tokens.{Class, either, given, any_of}
+use Rattle.grammar_parts.specs.Tokens.{Class, either, given}
 use Rattle.grammar_parts.specs.Parts.{Part, one, seq, alt, opt, many, mapped, only, unless, long, many_long, ahead}
 use Rattle.grammar_parts.specs.Levels.{Mode, Inner}
-use Rattle.grammar_sample.specs.Words.{is, is_word, of}
+use Rattle.grammar_sample.specs.Words.{is, is_word, of, any_of}
 
 abbrev pub int_kind : Bool → Class Kind
 int_kind wide t = either (is k.Int) (given wide (is k.Double)) t
 
+-- what the forms begin with, but for `if`
+abbrev pub form_first : Class Kind
+form_first = any_of (k.LParen ∷ k.LBracket ∷ k.Name ∷ k.LBrace ∷ [])
+
 abbrev pub atom_first : Bool → Bool → Class Kind
-atom_first wide room = either (int_kind wide) (given room (any_of is (k.LParen ∷ k.LBracket ∷ k.Name ∷ k.LBrace ∷ [])))
+atom_first wide room = either (int_kind wide) (given room form_first)
 
 abbrev pub single_first : Bool → Bool → Class Kind
 single_first wide room = either (atom_first wide room) (given room (is k.If))

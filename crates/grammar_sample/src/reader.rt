@@ -51,6 +51,15 @@ fn comma_of(alloc: Global, first: Tree, more: Items<(u32, Tree)>) -> Result<Tree
     Ok(Tree::Comma(Boxed::new(alloc, first)?, more))
 }
 
+fn sees_form(cursor: &Cursor<'_, Word>) -> bool
+    ensures { result ≡ sees (of g.form_first) cursor.now.rest.now }
+{
+    cursor.sees(Kind::LParen)
+        || cursor.sees(Kind::LBracket)
+        || cursor.sees(Kind::Name)
+        || cursor.sees(Kind::LBrace)
+}
+
 #[derive(Clone, Copy)]
 pub struct Parts<F> {
     pub alloc: Global,
@@ -88,9 +97,7 @@ impl<F: Fn(Global, bool, usize, Inner, &mut Cursor<'_, Word>) -> Result<Tree, St
         ensures { result ≡ sees (of (g.single_first self.now.wide (room_in self.now.depth))) cursor.now.rest.now }
     {
         let nests = self.depth > 1;
-        self.sees_int(cursor)
-            || nests && cursor.sees_any(&[Kind::LParen, Kind::LBracket, Kind::Name, Kind::LBrace])
-            || cursor.sees_if(nests, Kind::If)
+        self.sees_int(cursor) || nests && sees_form(cursor) || cursor.sees_if(nests, Kind::If)
     }
 
     fn optional(&self, cursor: &mut Cursor<'_, Word>) -> Result<Option<Boxed<Tree>>, Stop>
@@ -124,7 +131,7 @@ impl<F: Fn(Global, bool, usize, Inner, &mut Cursor<'_, Word>) -> Result<Tree, St
         requires room { 0 < self.now.depth }
         ensures { ReadsAs (λ v. v.items) ((at step g.more_arguments self.now.wide self.now.depth).read cursor.old.rest.now) result cursor.new.rest.now }
     {
-        repeat(self.alloc, &[Kind::Comma], |at| self.argument(at), cursor)
+        repeat(self.alloc, Kind::Comma, |at| self.argument(at), cursor)
     }
 
     #[tactic(auto, unfolding(crate::specs::Grammar::argument))]
@@ -229,7 +236,7 @@ impl<F: Fn(Global, bool, usize, Inner, &mut Cursor<'_, Word>) -> Result<Tree, St
         requires room { 0 < self.now.depth }
         ensures { ReadsAs (λ v. v.items) ((at step g.more_pairs self.now.wide self.now.depth).read cursor.old.rest.now) result cursor.new.rest.now }
     {
-        repeat(self.alloc, &[Kind::Comma], |at| self.next_pair(at), cursor)
+        repeat(self.alloc, Kind::Comma, |at| self.next_pair(at), cursor)
     }
 
     #[tactic(auto, unfolding(crate::specs::Grammar::pairs))]
@@ -331,12 +338,7 @@ impl<F: Fn(Global, bool, usize, Inner, &mut Cursor<'_, Word>) -> Result<Tree, St
         requires { Nests step (λ t. t) self.now.wide self.now.depth (F.pre self.now.inner) (F.post self.now.inner) }
         ensures { ReadsAs (λ v. v.items) ((at step g.steps self.now.wide self.now.depth).read cursor.old.rest.now) result cursor.new.rest.now }
     {
-        repeat(
-            self.alloc,
-            &[Kind::LBracket],
-            |at| self.next_step(at),
-            cursor,
-        )
+        repeat(self.alloc, Kind::LBracket, |at| self.next_step(at), cursor)
     }
 
     #[tactic(auto, unfolding(crate::specs::Grammar::postfix))]
@@ -399,7 +401,7 @@ impl<F: Fn(Global, bool, usize, Inner, &mut Cursor<'_, Word>) -> Result<Tree, St
         requires { Nests step (λ t. t) self.now.wide self.now.depth (F.pre self.now.inner) (F.post self.now.inner) }
         ensures { ReadsAs (λ v. v.items) ((at step g.terms self.now.wide self.now.depth).read cursor.old.rest.now) result cursor.new.rest.now }
     {
-        repeat(self.alloc, &[Kind::Plus], |at| self.term(at), cursor)
+        repeat(self.alloc, Kind::Plus, |at| self.term(at), cursor)
     }
 
     #[tactic(auto, unfolding(crate::specs::Grammar::sum))]
@@ -453,7 +455,7 @@ impl<F: Fn(Global, bool, usize, Inner, &mut Cursor<'_, Word>) -> Result<Tree, St
         requires { Nests step (λ t. t) self.now.wide self.now.depth (F.pre self.now.inner) (F.post self.now.inner) }
         ensures { ReadsAs (λ v. v.items) ((at step g.operands self.now.wide self.now.depth).read cursor.old.rest.now) result cursor.new.rest.now }
     {
-        repeat(self.alloc, &[Kind::Comma], |at| self.operand(at), cursor)
+        repeat(self.alloc, Kind::Comma, |at| self.operand(at), cursor)
     }
 
     #[tactic(auto, unfolding(crate::specs::Grammar::expr))]

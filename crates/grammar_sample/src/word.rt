@@ -1,7 +1,7 @@
 ghost use Rattle.std.specs.Prelude.{◌≡◌};
-ghost use Rattle.grammar_sample.specs.Words.{is, is_word};
+ghost use Rattle.grammar_sample.specs.Words.{is};
 
-use grammar_parts::Token;
+use grammar_parts::TokenClass;
 
 #[derive(Clone, Copy, Debug, PartialEq, Eq)]
 pub enum Kind {
@@ -35,12 +35,12 @@ pub fn same_kind(a: Kind, b: Kind) -> bool
     a == b
 }
 
-impl Token for Word {
-    type Kind = Kind;
+impl TokenClass<Word> for Kind {
+    ghost use Rattle.grammar_sample.specs.Words.{is_word};
 
-    ghost is = { is_word };
+    ghost takes = { is_word };
 
-    fn is(&self, kind: Kind) -> bool {
-        same_kind(self.kind, kind)
+    fn takes(self, word: &Word) -> bool {
+        same_kind(word.kind, self)
     }
 }

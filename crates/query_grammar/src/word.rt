@@ -1,7 +1,7 @@
 ghost use Rattle.std.specs.Prelude.{◌≡◌};
 
 use crate::class::Class;
-use grammar_parts::Token;
+use grammar_parts::TokenClass;
 use item_tree::{Str, Units, Whole};
 
 /// What a token is in the grammar: each keyword and each mark is a kind of its own. Every keyword
@@ -152,14 +152,24 @@ pub struct Word {
     pub value: Value,
 }
 
-impl Token for Word {
-    type Kind = Kind;
-
+impl TokenClass<Word> for Kind {
+    ghost use Rattle.query_grammar.specs.Languages.{of_kind};
     ghost use Rattle.query_grammar.specs.Classes.{is};
 
-    ghost is = { λ kind word. is kind word.kind };
+    ghost takes = { λ kind. of_kind (is kind) };
 
-    fn is(&self, kind: Kind) -> bool {
-        Class::Is(kind).has(self.kind)
+    fn takes(self, word: &Word) -> bool {
+        Class::Is(self).has(word.kind)
+    }
+}
+
+impl TokenClass<Word> for Class {
+    ghost use Rattle.query_grammar.specs.Languages.{of_kind};
+    ghost use Rattle.query_grammar.specs.Named.{class_of};
+
+    ghost takes = { λ class. of_kind (class_of class) };
+
+    fn takes(self, word: &Word) -> bool {
+        self.has(word.kind)
     }
 }
