@@ -1,4 +1,8 @@
+mod BoundRows
+mod CompiledFrames
 pub mod Folds
+mod Framed
+mod Frames
 pub mod Layers
 mod Maps
 mod NestingLaws

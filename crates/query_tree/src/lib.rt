@@ -1,7 +1,9 @@
 //! The trees of queries.
 #![tactic(auto)]
 
+mod bound;
 mod clause;
+mod compiled;
 mod expr;
 pub mod laws;
 mod module;
@@ -10,7 +12,9 @@ mod operator;
 mod part;
 mod step;
 
+pub use bound::{BoundExpr, BoundModule, Slot, Target};
 pub use clause::{Clause, GroupVar, OrderKey};
+pub use compiled::Compiled;
 pub use expr::{Expr, Kind};
 pub use module::{Function, Module, Param, Variable};
 pub use names::{NamedExpr, Placed, Query, TypeName};

@@ -1,8 +1,9 @@
-use crate::{Clause, Expr, Kind, NamedExpr, Placed, Query, SumOp, Term, TypeName};
-use item_tree::{Str, Whole};
-use seq_types::Times;
+use crate::{BoundModule, Clause, Compiled, Expr, Kind, NamedExpr, Placed, Slot, SumOp, Term};
+use item_tree::Whole;
 use std::alloc::Global;
 use std::test::Fail;
+
+// No test has a tree of its own: the proof of a function that drops one is long, so few do.
 
 fn number(place: u32, n: u16) -> NamedExpr {
     Expr {
@@ -11,20 +12,6 @@ fn number(place: u32, n: u16) -> NamedExpr {
             value: Whole::new(i128::from(n)),
         },
     }
-}
-
-// A number in so many parentheses.
-fn nested(alloc: Global, levels: u8) -> Result<NamedExpr, Fail> {
-    let mut e = number(u32::from(levels), 7);
-    for level in 0..levels {
-        e = Expr {
-            place: u32::from(levels - level - 1),
-            kind: Kind::Paren {
-                content: Some(Box::new(alloc, e)?),
-            },
-        };
-    }
-    Ok(e)
 }
 
 // `0 + 1 - 1 + 1 ..` with so many operators.
@@ -51,192 +38,107 @@ fn chain(alloc: Global, operators: u32) -> Result<NamedExpr, Fail> {
     })
 }
 
-// How many parentheses stand round the innermost expression.
-fn levels(e: &NamedExpr) -> u32 {
-    let mut count = 0u32;
+// The same in so many parentheses.
+fn nested(alloc: Global, levels: u8, operators: u32) -> Result<NamedExpr, Fail> {
+    let mut e = chain(alloc, operators)?;
+    for _ in 0..levels {
+        e = Expr {
+            place: 0,
+            kind: Kind::Paren {
+                content: Some(Box::new(alloc, e)?),
+            },
+        };
+    }
+    Ok(e)
+}
+
+// How many parentheses stand round an expression, and how many operators in it.
+fn measured(e: &NamedExpr) -> (u32, usize) {
+    let mut levels = 0u32;
     let mut at = e;
     while let Kind::Paren {
         content: Some(inner),
     } = &at.kind
     {
         at = inner;
-        count = count.wrapping_add(1);
+        levels = levels.wrapping_add(1);
     }
-    count
+    match &at.kind {
+        Kind::Sum { rest, .. } => (levels, rest.len()),
+        _ => (levels, 0),
+    }
+}
+
+// The same of such a tree, which is dropped.
+fn measures(alloc: Global, levels: u8, operators: u32) -> Result<(u32, usize), Fail> {
+    let e = nested(alloc, levels, operators)?;
+    Ok(measured(&e))
 }
 
 #[test]
-fn drops_nested_trees(rt: HostRuntime) -> Result<(), Fail> {
-    let alloc = rt.alloc();
-    for depth in [0u8, 1, 100] {
-        let e = nested(alloc, depth)?;
-        assert_eq!(rt; levels(&e), u32::from(depth));
-        assert_eq!(rt; e.place, 0);
+fn drops_trees(rt: HostRuntime) -> Result<(), Fail> {
+    for (levels, operators) in [(0u8, 1u32), (1, 2), (100, 3), (100, 500_000)] {
+        let kept = measures(rt.alloc(), levels, operators)?;
+        assert_eq!(rt; kept, (u32::from(levels), operators as usize));
     }
     Ok(())
 }
 
-#[test]
-fn drops_long_chains(rt: HostRuntime) -> Result<(), Fail> {
-    let alloc = rt.alloc();
-    for operators in [1u32, 500_000] {
-        let e = chain(alloc, operators)?;
-        match &e.kind {
-            Kind::Sum { first: _, rest } => assert_eq!(rt; rest.len(), operators as usize),
-            _ => assert!(rt; false),
-        }
-    }
-    Ok(())
-}
-
-// `for $x in json-lines("a") return $x`, with a name in place of `x`.
-fn each_line(alloc: Global, name: &str) -> Result<NamedExpr, Fail> {
-    let input = Expr {
-        place: 21,
-        kind: Kind::Text {
-            value: Str::of(alloc, "a")?,
-        },
-    };
-    let clause = Clause::For {
+// `let $x := null return $x`, compiled.
+fn compiled(alloc: Global) -> Result<Compiled, Fail> {
+    let clause = Clause::Let {
         variable: Placed {
             place: 4,
-            name: Str::of(alloc, name)?,
+            name: Slot::Local(0),
         },
         of: None,
-        allowing_empty: false,
-        at: None,
-        source: Expr {
+        value: Expr {
             place: 10,
-            kind: Kind::Call {
-                function: Str::of(alloc, "json-lines")?,
-                arguments: vec![in alloc; input]?,
-            },
+            kind: Kind::Null,
         },
     };
-    let variable = Str::of(alloc, name)?;
     let result = Expr {
-        place: 33,
-        kind: Kind::Var { variable },
+        place: 22,
+        kind: Kind::Var {
+            variable: Slot::Local(0),
+        },
     };
-    Ok(Expr {
+    let body = Expr {
         place: 0,
         kind: Kind::Flwor {
             clauses: vec![in alloc; clause]?,
-            place: 26,
+            place: 15,
             result: Box::new(alloc, result)?,
         },
-    })
-}
-
-// Whether both trees are such a FLWOR with the same variable.
-fn same_loop(a: &NamedExpr, b: &NamedExpr) -> bool {
-    match (&a.kind, &b.kind) {
-        (
-            Kind::Flwor {
-                clauses: bound,
-                place: at,
-                result: read,
-            },
-            Kind::Flwor {
-                clauses: other_bound,
-                place: other_at,
-                result: other_read,
-            },
-        ) => {
-            at == other_at
-                && same_variable(read, other_read)
-                && bound.len() == other_bound.len()
-                && bound
-                    .iter()
-                    .zip(other_bound.iter())
-                    .all(|(c, other)| same_clause(c, other))
-        }
-        _ => false,
-    }
-}
-
-fn same_variable(a: &NamedExpr, b: &NamedExpr) -> bool {
-    match (&a.kind, &b.kind) {
-        (Kind::Var { variable: x }, Kind::Var { variable: y }) => a.place == b.place && x == y,
-        _ => false,
-    }
-}
-
-fn same_clause(a: &Clause<Str, Str, TypeName>, b: &Clause<Str, Str, TypeName>) -> bool {
-    match (a, b) {
-        (
-            Clause::For {
-                variable: x,
-                of: None,
-                allowing_empty: false,
-                at: None,
-                source: s,
-            },
-            Clause::For {
-                variable: y,
-                of: None,
-                allowing_empty: false,
-                at: None,
-                source: t,
-            },
-        ) => x.place == y.place && x.name == y.name && same_call(s, t),
-        _ => false,
-    }
-}
-
-fn same_call(a: &NamedExpr, b: &NamedExpr) -> bool {
-    match (&a.kind, &b.kind) {
-        (
-            Kind::Call {
-                function: f,
-                arguments: xs,
-            },
-            Kind::Call {
-                function: g,
-                arguments: ys,
-            },
-        ) => a.place == b.place && f == g && xs.len() == ys.len(),
-        _ => false,
-    }
-}
-
-#[test]
-fn compares_trees(rt: HostRuntime) -> Result<(), Fail> {
-    let alloc = rt.alloc();
-    let x = each_line(alloc, "x")?;
-    assert!(rt; same_loop(&x, &each_line(alloc, "x")?));
-    assert!(rt; !same_loop(&x, &each_line(alloc, "y")?));
-    assert!(rt; !same_loop(&x, &number(0, 1)));
-    Ok(())
-}
-
-#[test]
-fn keeps_types_and_places(rt: HostRuntime) -> Result<(), Fail> {
-    let alloc = rt.alloc();
-    let name = TypeName {
-        name: Str::of(alloc, "empty-sequence")?,
-        parens: true,
-        times: Times::One,
     };
-    let query: Query = Query {
+    let tree = BoundModule {
         variables: Vec::new(alloc),
         functions: Vec::new(alloc),
-        body: Expr {
-            place: 0,
-            kind: Kind::Treat {
-                operand: Box::new(alloc, number(0, 1))?,
-                place: 2,
-                to: Placed { place: 11, name },
-            },
-        },
+        body,
     };
-    match &query.body.kind {
-        Kind::Treat { operand, place, to } => {
-            assert_eq!(rt; (operand.place, *place, to.place), (0, 2, 11));
-            assert_eq!(rt; to.name.name.as_str(), "empty-sequence");
-            assert!(rt; to.name.parens && to.name.times == Times::One);
-        }
-        _ => assert!(rt; false),
+    Ok(Compiled::new(tree, 1))
+}
+
+// How many clauses the body has, and the places of its `return` and of what it returns.
+fn body_lent(query: &Compiled) -> Option<(usize, u32, u32)> {
+    match &query.module().body.kind {
+        Kind::Flwor {
+            clauses,
+            place,
+            result,
+        } => Some((clauses.len(), *place, result.place)),
+        _ => None,
     }
+}
+
+fn compiled_made(alloc: Global) -> Result<(usize, Option<(usize, u32, u32)>), Fail> {
+    let query = compiled(alloc)?;
+    Ok((query.width(), body_lent(&query)))
+}
+
+#[test]
+fn lends_a_compiled_tree(rt: HostRuntime) -> Result<(), Fail> {
+    let made = compiled_made(rt.alloc())?;
+    assert_eq!(rt; made, (1, Some((1, 15, 22))));
     Ok(())
 }
