@@ -1,9 +1,12 @@
 -- Steps to the next token.
-use Rattle.std.specs.Prelude.{◌≡◌, ℕ, true, false, List, [], ◌∷◌, Some, None, refl}
+use Rattle.std.specs.Prelude.{◌≡◌, ◌==◌, ◌||◌, ℕ, Bool, true, false, List, [], ◌∷◌, Some, None, refl}
 use Rattle.std.proofs.Common.{sym, ◌∙◌, ap}
 use Rattle.json_text.specs.Json.{is_space}
-use Rattle.json_text.specs.Machine.{end, token_from, token_at}
-use Rattle.item_reader.specs.Tokens.{uncons, begins}
+use Rattle.std.proofs.lemmas.Bool.{ne_eqb}
+use Rattle.json_text.specs.Scan.{string_at, numeral_at}
+use Rattle.json_text.specs.Machine.{end, token_from, token_at, string_token, numeral_token}
+use Rattle.item_reader.specs.declared.token.Token.TheVariants.{OpenArray, CloseArray, OpenObject, CloseObject, Comma, Colon}
+use Rattle.item_reader.specs.Tokens.{IsPart, is_mark, uncons, begins}
 use Rattle.item_reader.proofs.Parts.{cons_of, nil_of}
 
 space_first : (b : ℕ) (l : List ℕ) → is_space b ≡ true → token_at (b ∷ l) ≡ token_at l
@@ -33,3 +36,52 @@ end_there = refl
 
 pub at_end : (l : List ℕ) → uncons l ≡ None → token_at l ≡ (end, [])
 at_end l h = ap token_at (nil_of l h) ∙ end_there
+
+-- ---- marks
+
+pub from_open_array : (b : ℕ) (l : List ℕ) → b ≡ 91 → IsPart OpenArray l (token_from b l)
+unfolding token_from
+from_open_array b l e = rw e (refl, refl)
+
+pub from_close_array : (b : ℕ) (l : List ℕ) → b ≡ 93 → IsPart CloseArray l (token_from b l)
+unfolding token_from
+from_close_array b l e = rw e (refl, refl)
+
+pub from_open_object : (b : ℕ) (l : List ℕ) → b ≡ 123 → IsPart OpenObject l (token_from b l)
+unfolding token_from
+from_open_object b l e = rw e (refl, refl)
+
+pub from_close_object : (b : ℕ) (l : List ℕ) → b ≡ 125 → IsPart CloseObject l (token_from b l)
+unfolding token_from
+from_close_object b l e = rw e (refl, refl)
+
+pub from_comma : (b : ℕ) (l : List ℕ) → b ≡ 44 → IsPart Comma l (token_from b l)
+unfolding token_from
+from_comma b l e = rw e (refl, refl)
+
+pub from_colon : (b : ℕ) (l : List ℕ) → b ≡ 58 → IsPart Colon l (token_from b l)
+unfolding token_from
+from_colon b l e = rw e (refl, refl)
+
+pub from_quote : (b : ℕ) (l : List ℕ) → b ≡ 34 → token_from b l ≡ string_token (string_at l)
+unfolding token_from
+from_quote b l e = rw e refl
+
+none_of : (a b c d e f : Bool) → (a || b || c || d || e || f) ≡ false → (a ≡ false) × (b ≡ false) × (c ≡ false) × (d ≡ false) × (e ≡ false) × (f ≡ false)
+none_of true b c d e f h = absurd cc
+none_of false true c d e f h = absurd cc
+none_of false false true d e f h = absurd cc
+none_of false false false true e f h = absurd cc
+none_of false false false false true f h = absurd cc
+none_of false false false false false true h = absurd cc
+none_of false false false false false false h = (refl, refl, refl, refl, refl, refl)
+
+pub no_mark : (b : ℕ) → (b ≡ 91 → ⊥) → (b ≡ 93 → ⊥) → (b ≡ 123 → ⊥) → (b ≡ 125 → ⊥) → (b ≡ 44 → ⊥) → (b ≡ 58 → ⊥) → is_mark b ≡ false
+no_mark b p q r s t u = rw (ne_eqb b 91 p, ne_eqb b 93 q, ne_eqb b 123 r, ne_eqb b 125 s, ne_eqb b 44 t, ne_eqb b 58 u) refl
+
+-- a number begins with no mark, no quote and no letter of a word
+pub from_number : (b : ℕ) (l : List ℕ) → is_mark b ≡ false → (b ≡ 34 → ⊥) → (b ≡ 110 → ⊥) → (b ≡ 116 → ⊥) → (b ≡ 102 → ⊥) → token_from b l ≡ numeral_token (numeral_at (b ∷ l))
+unfolding token_from
+from_number b l h p q r s =
+    let n = none_of (b == 91) (b == 93) (b == 123) (b == 125) (b == 44) (b == 58) h in
+    rw (n.0, n.1, n.2, n.3, n.4, n.5, ne_eqb b 34 p, ne_eqb b 110 q, ne_eqb b 116 r, ne_eqb b 102 s) refl

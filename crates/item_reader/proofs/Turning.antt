@@ -67,6 +67,15 @@ no_takes (m.characters s) = tt
 pub turn_none : (mode : m.Mode) (old : State) (t : m.Token) (new : State) → ((k : m.Next) → m.step mode (kinds_of old.kinds.items) t k ≡ None) → IsTurn mode old t NotJson new
 turn_none mode old t new step = record { gives = λ k. ap (b.outcome (build_of old.build)) (step k); fits = λ f. tt; takes = no_takes t }
 
+bad_step : (mode : m.Mode) (ks : m.Kinds) (k : m.Next) → m.step mode ks m.bad k ≡ None
+bad_step (m.value f) ks k = refl
+bad_step (m.key f) ks k = refl
+bad_step m.name ks k = refl
+bad_step m.after ks k = refl
+
+pub turn_bad : (mode : m.Mode) (old new : State) → IsTurn mode old m.bad NotJson new
+turn_bad mode old new = turn_none mode old m.bad new (λ k. bad_step mode (kinds_of old.kinds.items) k)
+
 -- ---- values
 
 same_added : (x : b.Build) (y : Datum) (e : m.Event) → ((fs : List b.Frame) → b.act e fs ≡ b.add y fs) → on_frames (b.add y) x ≡ b.perform x e

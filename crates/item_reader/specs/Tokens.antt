@@ -1,12 +1,12 @@
 -- What the code's tokens stand for.
-use Rattle.std.specs.Prelude.{◌≡◌, ℕ, Bool, false, List, [], ◌∷◌, Option, Some, None, Ok, Err}
+use Rattle.std.specs.Prelude.{◌≡◌, ◌==◌, ◌||◌, ℕ, Bool, false, List, [], ◌∷◌, Option, Some, None, Ok, Err}
 use Rattle.item_tree.specs.Datum.{Datum, null, boolean}
 use Rattle.item_tree.specs.Item.{datum}
 use Rattle.json_text.specs.Meaning.{number_out}
 use Rattle.json_text.specs.Machine as m
 use Rattle.json_text.specs.Build.{number_said, number_outcome}
 use Rattle.item_reader.specs.declared.token.Token.{Token}
-use Rattle.item_reader.specs.declared.token.Token.TheVariants.{OpenArray, CloseArray, OpenObject, CloseObject, Comma, Colon, Atom, NumberOut, Text, End, Bad}
+use Rattle.item_reader.specs.declared.token.Token.TheVariants.{OpenArray, CloseArray, OpenObject, CloseObject, Comma, Colon, Atom, NumberOut, End, Bad}
 
 -- a token that is this value, or a number that is out of bounds
 abbrev pub IsAtom : Datum → m.Token → Type 0
@@ -28,13 +28,16 @@ StandsFor Comma t = t ≡ m.comma
 StandsFor Colon t = t ≡ m.colon
 StandsFor (Atom x) t = IsAtom (datum x) t
 StandsFor NumberOut t = IsNumberOut t
-StandsFor (Text s) t = t ≡ m.characters s
 StandsFor End t = t ≡ m.end
 StandsFor Bad t = t ≡ m.bad
 
 -- a token and the bytes behind it
 abbrev pub IsPart : Token → List ℕ → m.Token × List ℕ → Type 0
 IsPart t r p = StandsFor t p.0 × (r ≡ p.1)
+
+-- a bracket, a comma or a colon
+abbrev pub is_mark : ℕ → Bool
+is_mark b = b == 91 || b == 93 || b == 123 || b == 125 || b == 44 || b == 58
 
 abbrev pub begins : (ℕ → Bool) → List ℕ → Bool
 begins p [] = false

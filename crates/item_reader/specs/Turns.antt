@@ -1,5 +1,5 @@
 -- One turn of the machine, in the code.
-use Rattle.std.specs.Prelude.{◌≡◌, Bool, true, false, Option, Some, None}
+use Rattle.std.specs.Prelude.{◌≡◌, ℕ, List, Bool, true, false, Option, Some, None}
 use Rattle.json_text.specs.Machine as m
 use Rattle.json_text.specs.Build as b
 use Rattle.item_tree.specs.Datum.{Datum}
@@ -34,6 +34,10 @@ pub record IsTurn (mode : m.Mode) (old : State) (t : m.Token) (r : Turn) (new : 
   pub gives : (k : m.Next) → b.outcome (build_of old.build) (m.step mode (kinds_of old.kinds.items) t k) ≡ turn_gives r new k
   pub fits : BuildFits (build_of old.build) → TurnFits r new
   pub takes : Takes t r
+
+-- the turn of a part's token, and the bytes behind it
+abbrev pub IsTurnAt : State → m.Token × List ℕ → Turn → List ℕ → State → Type 0
+IsTurnAt old p r behind new = IsTurn (mode_of old.mode) old p.0 r new × (behind ≡ p.1)
 
 -- the event brings the one state to the other, with this mode and these kinds
 pub record Steps (old : State) (e : m.Event) (m2 : m.Mode) (ks2 : m.Kinds) (new : State) : Type 0 where

@@ -19,7 +19,7 @@ use Rattle.item_reader.specs.declared.turn.Mode.TheVariants.{Value, Key, Name, A
 
 abbrev pub members_of : Members → List (List ℕ × Datum)
 members_of (Few v) = pair_datums v.items
-members_of (Many m) = pair_datums m.entries
+members_of (Many m) = pair_datums m.value.entries
 
 abbrev pub frame_of : Frame → b.Frame
 frame_of (Array v) = b.open_array (datums v.items)

@@ -18,7 +18,8 @@ const FEW: usize = 16;
 #[derive(Drop)]
 pub enum Members {
     Few(Vec<(Str, Item)>),
-    Many(IndexMap<Str, Item>),
+    // Behind a pointer, so that a frame is small.
+    Many(Box<IndexMap<Str, Item>>),
 }
 
 fn place_among(pairs: &[(Str, Item)], key: &Str) -> Option<usize>
@@ -82,6 +83,15 @@ fn listed(alloc: Global, map: IndexMap<Str, Item>) -> Result<Vec<(Str, Item)>, N
     }
 }
 
+fn boxed(alloc: Global, map: IndexMap<Str, Item>) -> Result<Members, NoMemory>
+    ensures { IfOk result (λ m. members_of m ≡ pair_datums map.entries) }
+{
+    match Box::new(alloc, map) {
+        Ok(map) => Ok(Members::Many(map)),
+        Err(_) => Err(NoMemory),
+    }
+}
+
 impl Members {
     pub fn new(alloc: Global) -> Members
         ensures { members_of result ≡ [] }
@@ -102,7 +112,7 @@ impl Members {
         ensures { IfOk result (λ m. members_of m ≡ members_of self) }
     {
         match self {
-            Members::Few(pairs) => Ok(Members::Many(hashed(alloc, pairs)?)),
+            Members::Few(pairs) => boxed(alloc, hashed(alloc, pairs)?),
             Members::Many(map) => Ok(Members::Many(map)),
         }
     }
@@ -135,7 +145,7 @@ impl Members {
     {
         match self {
             Members::Few(pairs) => Ok(pairs),
-            Members::Many(map) => listed(alloc, map),
+            Members::Many(map) => listed(alloc, Box::into_inner(map)),
         }
     }
 }

@@ -6,7 +6,6 @@ ghost use Rattle.item_reader.specs.Outcomes.{Gives, Raises};
 
 use crate::LineFault;
 use crate::build::{Build, Progress, Trouble};
-use crate::token::next_token;
 use crate::turn::{State, Turn};
 use item_tree::{Item, NoMemory};
 use std::alloc::Global;
@@ -30,8 +29,8 @@ fn read_text(alloc: Global, line: &[u8]) -> Result<Option<Build>, NoMemory>
     let mut state = State::new(alloc);
     let mut rest = line;
     'tokens: loop {
-        let (token, behind) = next_token(alloc, rest)?;
-        match state.take(alloc, token)? {
+        let (turn, behind) = state.take_next(alloc, rest)?;
+        match turn {
             Turn::More => rest = behind,
             Turn::End => return Ok(Some(state.build)),
             Turn::NotJson => return Ok(None),

@@ -1,24 +1,44 @@
 //! Strings, taken from the front of a text.
 
-ghost use Rattle.std.specs.Prelude.{◌≡◌, ◌<◌, ◌≤◌, ◌++◌, ◌∷◌, IfOk, IfSome, OnOk, MatchOption, option_map, None, Some, length, suc};
+ghost use Rattle.std.specs.Prelude.{◌≡◌, ◌<◌, ◌≤◌, ◌++◌, ◌∷◌, [], ℕ, slice_index, IfOk, IfSome, OnOk, MatchOption, option_map, None, Some, length, suc};
 ghost use Rattle.std.specs.List.{prefix_len};
+ghost use Rattle.std.specs.Str.{IsUtf8, chars};
 ghost use Rattle.item_tree.specs.JsonString.{is_raw as is_raw_of};
 ghost use Rattle.json_text.specs.Scan.{string_at, after_bytes};
 ghost use Rattle.json_text.specs.Machine.{string_token as string_token_of};
-ghost use Rattle.item_reader.specs.Tokens.{StandsFor, IsPart};
+ghost use Rattle.json_text.specs.Machine as m;
 
-use crate::token::{Token, uncons};
+use crate::token::uncons;
 use item_tree::{NoMemory, Str};
 use json_text::{escape_at, is_raw, push_spelled};
 use std::alloc::Global;
 use std::str;
 
-// How many bytes at the front stand for themselves.
+// How many bytes at the front stand for themselves, and a number that none of them is greater than.
+// All looking for the end of a stretch is done here, so that code that tests many bytes at once may
+// take its place.
+fn raw_front(line: &[u8]) -> (usize, u8)
+    ensures value { result.0 ≡ prefix_len is_raw_of line.now }
+    ensures within { result.0 ≤ length line.now }
+    ensures most { (k : ℕ) → k < result.0 → slice_index line.now k ≤ result.1 }
+{
+    let mut bits = 0u8;
+    for i in 0..line.len() {
+        let b = line[i];
+        if !is_raw(b) {
+            return (i, bits);
+        }
+        bits |= b;
+    }
+    (line.len(), bits)
+}
+
 fn raw_len(line: &[u8]) -> usize
     ensures value { result ≡ prefix_len is_raw_of line.now }
     ensures within { result ≤ length line.now }
 {
-    line.iter().take_while(|b| is_raw(**b)).count()
+    let (len, _) = raw_front(line);
+    len
 }
 
 fn append(bytes: &mut Vec<u8>, more: &[u8]) -> Result<(), NoMemory>
@@ -69,44 +89,48 @@ fn string(alloc: Global, line: &[u8]) -> Result<Option<(Vec<u8>, &[u8])>, NoMemo
     }
 }
 
-// A content without escapes, and what is behind its closing quote.
-fn plain_string(line: &[u8]) -> Option<(&[u8], &[u8])>
-    ensures { IfSome result (λ p. string_at line.now ≡ Some (p.0.now, p.1.now)) }
+// The text of bytes none of which is greater than this number.
+fn text_of(bytes: &[u8], most: u8) -> Option<&str>
+    requires { (k : ℕ) → k < length bytes.now → slice_index bytes.now k ≤ most }
+    ensures { IfSome result (λ t. (t.now ≡ bytes.now) × IsUtf8 bytes.now) }
 {
-    let (raw, behind) = line.split_at(raw_len(line));
-    let (mark, rest) = uncons(behind)?;
-    if mark == b'"' {
-        Some((raw, rest))
-    } else {
-        None
+    if most < 128 {
+        // ASCII needs no further test.
+        return Some(unsafe { str::from_utf8_unchecked(bytes) });
     }
-}
-
-fn plain_token<'a>(
-    alloc: Global,
-    bytes: &[u8],
-    rest: &'a [u8],
-) -> Result<(Token, &'a [u8]), NoMemory>
-    ensures { IfOk result (λ p. IsPart p.0 p.1.now (string_token_of (Some (bytes.now, rest.now)))) }
-{
     match str::from_utf8(bytes) {
-        Ok(text) => Ok((Token::Text(Str::of(alloc, text)?), rest)),
-        Err(_) => Ok((Token::Bad, &[])),
+        Ok(text) => Some(text),
+        Err(_) => None,
     }
 }
 
-/// The token of a string whose opening quote is before the line, and what is behind it.
-pub fn string_token(alloc: Global, line: &[u8]) -> Result<(Token, &[u8]), NoMemory>
-    ensures { IfOk result (λ p. IsPart p.0 p.1.now (string_token_of (string_at line.now))) }
+/// The text of a string without escapes whose opening quote is before the line, and what is behind
+/// it.
+pub fn plain_text(line: &[u8]) -> Option<(&str, &[u8])>
+    ensures { IfSome result (λ p. string_token_of (string_at line.now) ≡ (m.characters (chars p.0.now), p.1.now)) }
 {
-    if let Some((bytes, rest)) = plain_string(line) {
-        return plain_token(alloc, bytes, rest);
+    let (len, most) = raw_front(line);
+    let (raw, behind) = line.split_at(len);
+    let (mark, rest) = uncons(behind)?;
+    if mark != b'"' {
+        return None;
     }
+    match text_of(raw, most) {
+        Some(text) => Some((text, rest)),
+        None => None,
+    }
+}
+
+/// The text of a string whose opening quote is before the line, and what is behind it, or nothing
+/// where no string in UTF-8 is there.
+pub fn escaped_text(alloc: Global, line: &[u8]) -> Result<Option<(Str, &[u8])>, NoMemory>
+    ensures { IfOk result (λ o. MatchOption o (string_token_of (string_at line.now) ≡ (m.bad, [])) (λ p. string_token_of (string_at line.now) ≡ (m.characters p.0, p.1.now))) }
+{
     let Some((bytes, rest)) = string(alloc, line)? else {
-        return Ok((Token::Bad, &[]));
+        return Ok(None);
     };
     match String::from_utf8(bytes) {
-        Ok(text) => Ok((Token::Text(Str::from_string(alloc, text)?), rest)),
-        Err(_) => Ok((Token::Bad, &[])),
+        Ok(text) => Ok(Some((Str::from_string(alloc, text)?, rest))),
+        Err(_) => Ok(None),
     }
 }

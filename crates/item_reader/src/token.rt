@@ -1,15 +1,13 @@
-//! Tokens.
+//! Tokens, all but strings.
 
-ghost use Rattle.std.specs.Prelude.{◌≡◌, ◌∷◌, [], ℕ, true, false, IfOk, option_map};
+ghost use Rattle.std.specs.Prelude.{◌≡◌, ◌≢◌, ◌∷◌, [], true, false, option_map};
 ghost use Rattle.json_text.specs.Json.{is_space};
 ghost use Rattle.json_text.specs.Machine.{token_at, token_from as token_from_of, word_at};
 ghost use Rattle.json_text.specs.Machine as m;
-ghost use Rattle.item_reader.specs.Tokens.{StandsFor, IsPart, begins, uncons as uncons_of};
+ghost use Rattle.item_reader.specs.Tokens.{IsPart, is_mark, begins, uncons as uncons_of};
 
 use crate::number::number_token;
-use crate::string::string_token;
-use item_tree::{Item, NoMemory, Str};
-use std::alloc::Global;
+use item_tree::Item;
 
 #[derive(Drop)]
 pub enum Token {
@@ -22,7 +20,6 @@ pub enum Token {
     /// Null, a boolean, or a number within its bounds.
     Atom(Item),
     NumberOut,
-    Text(Str),
     End,
     Bad,
 }
@@ -42,7 +39,9 @@ pub(crate) fn uncons(line: &[u8]) -> Option<(u8, &[u8])>
     }
 }
 
-fn skip_spaces(line: &[u8]) -> &[u8]
+// Out of line, since most tokens have no space before them.
+#[inline(never)]
+fn behind_spaces(line: &[u8]) -> &[u8]
     ensures skipped { token_at result.now ≡ token_at line.now }
     ensures stops { begins is_space result.now ≡ false }
 {
@@ -54,6 +53,22 @@ fn skip_spaces(line: &[u8]) -> &[u8]
         left = rest;
     }
     left
+}
+
+pub(crate) fn skip_spaces(line: &[u8]) -> &[u8]
+    ensures skipped { token_at result.now ≡ token_at line.now }
+    ensures stops { begins is_space result.now ≡ false }
+{
+    match uncons(line) {
+        None => line,
+        Some((b, _)) => {
+            if is_space(b) {
+                behind_spaces(line)
+            } else {
+                line
+            }
+        }
+    }
 }
 
 fn null_token(line: &[u8]) -> (Token, &[u8])
@@ -86,57 +101,22 @@ fn false_token(line: &[u8]) -> (Token, &[u8])
     }
 }
 
-// The token of a text that begins with this byte, which is no space.
+// The token of a text that begins with this byte, which is no space, no mark and no quote.
 #[tactic(auto, unfolding(json_text::specs::Machine::token_from))]
-fn token_from<'a>(
-    alloc: Global,
-    b: u8,
-    rest: &'a [u8],
-    line: &'a [u8],
-) -> Result<(Token, &'a [u8]), NoMemory>
-    requires { line.now ≡ b ∷ rest.now }
-    ensures { IfOk result (λ p. IsPart p.0 p.1.now (token_from_of b rest.now)) }
+pub(crate) fn value_from<'a>(b: u8, rest: &'a [u8], line: &'a [u8]) -> (Token, &'a [u8])
+    requires line { line.now ≡ b ∷ rest.now }
+    requires value { is_mark b ≡ false }
+    requires no_quote { b ≢ 34 }
+    ensures { IsPart result.0 result.1.now (token_from_of b rest.now) }
 {
-    if b == b'[' {
-        return Ok((Token::OpenArray, rest));
-    }
-    if b == b']' {
-        return Ok((Token::CloseArray, rest));
-    }
-    if b == b'{' {
-        return Ok((Token::OpenObject, rest));
-    }
-    if b == b'}' {
-        return Ok((Token::CloseObject, rest));
-    }
-    if b == b',' {
-        return Ok((Token::Comma, rest));
-    }
-    if b == b':' {
-        return Ok((Token::Colon, rest));
-    }
-    if b == b'"' {
-        return string_token(alloc, rest);
-    }
     if b == b'n' {
-        return Ok(null_token(rest));
+        return null_token(rest);
     }
     if b == b't' {
-        return Ok(true_token(rest));
+        return true_token(rest);
     }
     if b == b'f' {
-        return Ok(false_token(rest));
+        return false_token(rest);
     }
-    Ok(number_token(line))
-}
-
-/// The token at the front, behind spaces, and what is behind it.
-pub fn next_token(alloc: Global, line: &[u8]) -> Result<(Token, &[u8]), NoMemory>
-    ensures { IfOk result (λ p. IsPart p.0 p.1.now (token_at line.now)) }
-{
-    let left = skip_spaces(line);
-    match uncons(left) {
-        None => Ok((Token::End, &[])),
-        Some((b, rest)) => token_from(alloc, b, rest, left),
-    }
+    number_token(line)
 }

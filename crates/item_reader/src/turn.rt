@@ -1,19 +1,22 @@
 //! One turn of the machine.
 
-ghost use Rattle.std.specs.Prelude.{◌≡◌, ◌∷◌, [], true, false, IfOk, OnOk};
+ghost use Rattle.std.specs.Prelude.{◌≡◌, ◌∷◌, [], ℕ, List, true, false, IfOk, OnOk};
 ghost use Rattle.num_fixed.specs.Numeral.{Numeral};
 ghost use Rattle.item_tree.specs.Item.{datum};
+ghost use Rattle.json_text.specs.Machine.{token_at, token_from, string_token};
+ghost use Rattle.json_text.specs.Scan.{string_at};
 ghost use Rattle.json_text.specs.Machine as m;
 ghost use Rattle.json_text.specs.Build.{start};
-ghost use Rattle.item_reader.specs.Tokens.{StandsFor, IsNumberOut};
+ghost use Rattle.item_reader.specs.Tokens.{StandsFor, IsNumberOut, IsPart};
 ghost use Rattle.item_reader.specs.View.{build_of, mode_of, kinds_of};
 ghost use Rattle.json_text.specs.Fits.{BuildFits};
-ghost use Rattle.item_reader.specs.Turns.{IsTurn, IsAdded, Steps, closing};
+ghost use Rattle.item_reader.specs.Turns.{IsTurn, IsTurnAt, IsAdded, Steps, closing};
 
 use crate::build::{Build, Trouble};
 use crate::frame::Frame;
 use crate::members::Members;
-use crate::token::Token;
+use crate::string::{escaped_text, plain_text};
+use crate::token::{Token, skip_spaces, uncons, value_from};
 use item_tree::{Item, NoMemory, Str};
 use std::alloc::Global;
 
@@ -121,6 +124,7 @@ impl State {
         self.mode = Mode::Name;
     }
 
+    #[inline(always)]
     fn value_turn(&mut self, alloc: Global, may_end: bool, token: Token) -> Result<Turn, NoMemory>
         requires { BuildFits (build_of self.old.build) }
         ensures { (t : m.Token) → StandsFor token t → IfOk result (λ r. IsTurn (m.value may_end) self.old t r self.new) }
@@ -129,7 +133,6 @@ impl State {
             Token::OpenArray => self.open_array(alloc)?,
             Token::OpenObject => self.open_object(alloc)?,
             Token::Atom(item) => self.add(alloc, item)?,
-            Token::Text(text) => self.add(alloc, Item::Text(text))?,
             Token::NumberOut => self.number_out(),
             Token::CloseArray => {
                 if may_end {
@@ -144,15 +147,12 @@ impl State {
         Ok(Turn::More)
     }
 
+    #[inline(always)]
     fn key_turn(&mut self, alloc: Global, may_end: bool, token: Token) -> Result<Turn, NoMemory>
         requires { BuildFits (build_of self.old.build) }
         ensures { (t : m.Token) → StandsFor token t → IfOk result (λ r. IsTurn (m.key may_end) self.old t r self.new) }
     {
         match token {
-            Token::Text(text) => {
-                self.set_key(text);
-                Ok(Turn::More)
-            }
             Token::CloseObject => {
                 if may_end {
                     self.close(alloc, false)
@@ -172,6 +172,7 @@ impl State {
         }
     }
 
+    #[inline(always)]
     fn name_turn(&mut self, token: &Token) -> Turn
         ensures { (t : m.Token) → StandsFor token.now t → IsTurn m.name self.old t result self.new }
     {
@@ -184,6 +185,7 @@ impl State {
         }
     }
 
+    #[inline(always)]
     fn go_on(&mut self) -> Turn
         ensures { IsTurn m.after self.old m.comma result self.new }
     {
@@ -200,6 +202,7 @@ impl State {
         }
     }
 
+    #[inline(always)]
     fn end_turn(&self) -> Turn
         ensures { IsTurn m.after self.now m.end result self.now }
     {
@@ -210,6 +213,7 @@ impl State {
         }
     }
 
+    #[inline(always)]
     fn after_turn(&mut self, alloc: Global, token: &Token) -> Result<Turn, NoMemory>
         requires { BuildFits (build_of self.old.build) }
         ensures { (t : m.Token) → StandsFor token.now t → IfOk result (λ r. IsTurn m.after self.old t r self.new) }
@@ -223,8 +227,9 @@ impl State {
         }
     }
 
-    /// The turn of this token.
-    pub fn take(&mut self, alloc: Global, token: Token) -> Result<Turn, NoMemory>
+    // The turn of this token.
+    #[inline(always)]
+    fn take(&mut self, alloc: Global, token: Token) -> Result<Turn, NoMemory>
         requires { BuildFits (build_of self.old.build) }
         ensures { (t : m.Token) → StandsFor token t → IfOk result (λ r. IsTurn (mode_of self.old.mode) self.old t r self.new) }
     {
@@ -233,6 +238,116 @@ impl State {
             Mode::Key(may_end) => self.key_turn(alloc, may_end, token),
             Mode::Name => Ok(self.name_turn(&token)),
             Mode::After => self.after_turn(alloc, &token),
+        }
+    }
+
+    // The turn of this token, and what is behind it. A copy of it for each token knows the token.
+    #[inline(always)]
+    fn take_part<'a>(
+        &mut self,
+        alloc: Global,
+        token: Token,
+        behind: &'a [u8],
+    ) -> Result<(Turn, &'a [u8]), NoMemory>
+        requires { BuildFits (build_of self.old.build) }
+        ensures { (p : m.Token × List ℕ) → IsPart token behind.now p → IfOk result (λ r. IsTurnAt self.old p r.0 r.1.now self.new) }
+    {
+        let turn = self.take(alloc, token)?;
+        Ok((turn, behind))
+    }
+
+    // The turn of a string of this text, and what is behind it.
+    #[inline(always)]
+    fn take_text<'a>(
+        &mut self,
+        alloc: Global,
+        text: Str,
+        behind: &'a [u8],
+    ) -> Result<(Turn, &'a [u8]), NoMemory>
+        requires { BuildFits (build_of self.old.build) }
+        ensures { IfOk result (λ r. IsTurnAt self.old (m.characters text, behind.now) r.0 r.1.now self.new) }
+    {
+        match self.mode {
+            Mode::Value(_) => {
+                self.add(alloc, Item::Text(text))?;
+                Ok((Turn::More, behind))
+            }
+            Mode::Key(_) => {
+                self.set_key(text);
+                Ok((Turn::More, behind))
+            }
+            Mode::Name | Mode::After => Ok((Turn::NotJson, behind)),
+        }
+    }
+
+    // The turn of a string whose opening quote is before the line, and what is behind it.
+    fn take_string<'a>(
+        &mut self,
+        alloc: Global,
+        line: &'a [u8],
+    ) -> Result<(Turn, &'a [u8]), NoMemory>
+        requires { BuildFits (build_of self.old.build) }
+        ensures { IfOk result (λ r. IsTurnAt self.old (string_token (string_at line.now)) r.0 r.1.now self.new) }
+    {
+        if let Some((text, behind)) = plain_text(line) {
+            return self.take_text(alloc, Str::of(alloc, text)?, behind);
+        }
+        match escaped_text(alloc, line)? {
+            Some((text, behind)) => self.take_text(alloc, text, behind),
+            None => Ok((Turn::NotJson, &[])),
+        }
+    }
+
+    // The turn of the token of a text that begins with this byte, which is no space.
+    fn take_from<'a>(
+        &mut self,
+        alloc: Global,
+        b: u8,
+        rest: &'a [u8],
+        line: &'a [u8],
+    ) -> Result<(Turn, &'a [u8]), NoMemory>
+        requires line { line.now ≡ b ∷ rest.now }
+        requires fits { BuildFits (build_of self.old.build) }
+        ensures { IfOk result (λ r. IsTurnAt self.old (token_from b rest.now) r.0 r.1.now self.new) }
+    {
+        if b == b'[' {
+            return self.take_part(alloc, Token::OpenArray, rest);
+        }
+        if b == b']' {
+            return self.take_part(alloc, Token::CloseArray, rest);
+        }
+        if b == b'{' {
+            return self.take_part(alloc, Token::OpenObject, rest);
+        }
+        if b == b'}' {
+            return self.take_part(alloc, Token::CloseObject, rest);
+        }
+        if b == b',' {
+            return self.take_part(alloc, Token::Comma, rest);
+        }
+        if b == b':' {
+            return self.take_part(alloc, Token::Colon, rest);
+        }
+        if b == b'"' {
+            return self.take_string(alloc, rest);
+        }
+        let (token, behind) = value_from(b, rest, line);
+        self.take_part(alloc, token, behind)
+    }
+
+    /// The turn of the token at the front, behind spaces, and what is behind it.
+    pub fn take_next<'a>(
+        &mut self,
+        alloc: Global,
+        line: &'a [u8],
+    ) -> Result<(Turn, &'a [u8]), NoMemory>
+        requires { BuildFits (build_of self.old.build) }
+        ensures { IfOk result (λ r. IsTurnAt self.old (token_at line.now) r.0 r.1.now self.new) }
+    {
+        let left = skip_spaces(line);
+        match uncons(left) {
+            None => self.take_part(alloc, Token::End, &[]),
+            Some((b, rest)) => self.take_from(alloc, b, rest, left),
         }
     }
 }

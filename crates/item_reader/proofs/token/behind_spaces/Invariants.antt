@@ -1,6 +1,6 @@
 use Rattle.std.proofs.Common.{◌≡◌, length}
 use Rattle.json_text.specs.Machine.{token_at}
-use Rattle.item_reader.proofs.token.skip_spaces.Given as goal
+use Rattle.item_reader.proofs.token.behind_spaces.Given as goal
 
 abbrev pub invariant-loop-b : goal.invariant-loop-b
 invariant-loop-b l = token_at l.left ≡ token_at l.line

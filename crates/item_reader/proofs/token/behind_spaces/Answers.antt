@@ -1,6 +1,6 @@
 use Rattle.std.proofs.Common.{sym, ◌∙◌}
 use Rattle.item_reader.proofs.TokenSteps.{space_skipped}
-use Rattle.item_reader.proofs.token.skip_spaces.Goals as goal
+use Rattle.item_reader.proofs.token.behind_spaces.Goals as goal
 
 pub loop-b-preserved : goal.loop-b-preserved
 loop-b-preserved c =
