@@ -1,0 +1,6 @@
+pub mod EarliestRefusals
+mod Agreement
+mod Numbers
+mod Rows
+mod Scoped
+mod Sound
