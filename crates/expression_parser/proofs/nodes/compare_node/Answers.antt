@@ -1,0 +1,5 @@
+use Rattle.expression_parser.proofs.NodeLemmas.{compare_is}
+use Rattle.expression_parser.proofs.nodes.compare_node.Goals as goal
+
+pub returns : goal.returns
+returns c = compare_is c.args.left c.in_ok-left.left c.args.op c.args.place c.args.right c.in_ok-left.right c.in_ok-left.ensures.0 c.in_ok-left.ensures.1
