@@ -1,0 +1,3 @@
+mod NodeLemmas
+mod ListLemmas
+mod QueryLemmas
