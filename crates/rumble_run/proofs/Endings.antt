@@ -1,72 +1,99 @@
 -- What an ending is, by the parts that it was made of.
-use Rattle.std.proofs.Common.{◌≡◌, ℕ, List, [], ◌++◌, Option, None, Some, Result, Ok, Err, refl, sym, ap, ◌∙◌, subst, codes}
+use Rattle.std.proofs.Common.{◌≡◌, ℕ, List, ◌++◌, Option, None, Some, Result, Ok, Err, refl, sym, ap, ◌∙◌, subst, codes, inr, arith}
 use Rattle.std.specs.Prelude.{IfSome}
 use Rattle.std.specs.Str.{encode_utf8_all}
 use Rattle.item_tree.specs.Datum.{Datum}
+use Rattle.item_tree.specs.declared.code.Code.TheVariants.{PJST0099}
 use Rattle.item_tree.specs.declared.fault.Fault.{Fault}
+use Rattle.item_reader.specs.Lines.{without_mark}
 use Rattle.outside.specs.World.{World, file_of}
-use Rattle.rumble_run.specs.Answer.{Answer, answer, query_of, of_words, of_query, of_front, of_result, input_items, says, refused, usage}
+use Rattle.query_grammar.specs.Nodes.{Module}
+use Rattle.rumble_run.specs.Answer.{Answer, IsAnswer, IsOfQuery, IsOfCommand, IsOfFile, of_tree, of_run, of_result, input_items, says, refused, accepted, usage}
+use Rattle.rumble_run.specs.Built.{input_of}
+use Rattle.rumble_run.specs.Command.{command_of}
+use Rattle.rumble_run.specs.Front.{IsFront}
 use Rattle.rumble_run.specs.Place.{line_of, column_of}
-use Rattle.rumble_run.specs.Query.{front}
-use Rattle.rumble_run.specs.Seen.{IsShaped, IsOfQuery}
+use Rattle.rumble_run.specs.Ends.{StatusBy, Completes, Calm}
+use Rattle.rumble_run.specs.Seen.{IsShaped, IsOfStatus, EndsAs}
 use Rattle.rumble_run.specs.declared.status.Status.{Status}
 use Rattle.rumble_run.specs.declared.status.Status.TheVariants.{Done, Raised, Refused, Usage, ReadFault, WriteFault, NoMemory, NoQuery}
+use Rattle.rumble_run.specs.declared.words.Task.{Task}
+use Rattle.rumble_run.specs.declared.words.Task.TheVariants.{Run, Check}
 
 abbrev pub IsOf : Answer → Type 0
-IsOf a = IsOfQuery a.out a.err a.status
+IsOf a = IsOfStatus a.out a.err a.status
 
-of_refused : (query : List ℕ) (fault : Fault) → IsOf (refused query fault)
-of_refused query fault = ((fault.code, line_of query fault.place, column_of query fault.place, refl), refl)
+of_refused : (text : List ℕ) (fault : Fault) → IsOf (refused text fault)
+of_refused text fault = ((fault.code, line_of text fault.place, column_of text fault.place, refl), refl)
 
-pub of_refusal : (a : Answer) (query : List ℕ) (fault : Fault) → a ≡ refused query fault → IsOf a
-of_refusal a query fault e = subst IsOf (sym e) (of_refused query fault)
+pub of_refusal : (a : Answer) (text : List ℕ) (fault : Fault) → a ≡ refused text fault → IsOf a
+of_refusal a text fault e = subst IsOf (sym e) (of_refused text fault)
 
-of_items : (query : List ℕ) (r : Result (List Datum) Fault) → IsOf (of_result query r)
-of_items query (Ok items) = refl
-of_items query (Err fault) = ((fault.code, line_of query fault.place, column_of query fault.place, refl), refl)
+pub of_accepted : (a : Answer) → a ≡ accepted → IsOf a
+of_accepted a e = subst IsOf (sym e) refl
 
-pub of_input_items : (a : Answer) (query : List ℕ) (r : Result (List Datum) Fault) → a ≡ of_result query r → IsOf a
-of_input_items a query r e = subst IsOf (sym e) (of_items query r)
+of_items : (text : List ℕ) (r : Result (List Datum) Fault) → IsOf (of_result text r)
+of_items text (Ok items) = refl
+of_items text (Err fault) = ((fault.code, line_of text fault.place, column_of text fault.place, refl), refl)
+
+pub of_input_items : (a : Answer) (text : List ℕ) (r : Result (List Datum) Fault) → a ≡ of_result text r → IsOf a
+of_input_items a text r e = subst IsOf (sym e) (of_items text r)
+
+-- ---- the answer to a tree
+
+pub run_unbuilt : (a : Answer) (text : List ℕ) (tree : Module) (world : Option World) → None ≡ input_of tree → a ≡ refused text (record { code = PJST0099; place = 0 }) → IfSome world (λ w. a ≡ of_tree Run text w tree)
+run_unbuilt a text tree None is e = tt
+run_unbuilt a text tree (Some w) is e = e ∙ ap (of_run text w) is
+
+pub run_read : (a : Answer) (text : List ℕ) (tree : Module) (name : List ℕ) (place : ℕ) (input : Option (List ℕ)) (world : Option World) → Some (name, place) ≡ input_of tree
+    → IfSome world (λ w. input ≡ file_of w name) → a ≡ of_result text (input_items place input) → IfSome world (λ w. a ≡ of_tree Run text w tree)
+run_read a text tree name place input None is i e = tt
+run_read a text tree name place input (Some w) is i e = e ∙ ap (λ o. of_result text (input_items place o)) i ∙ ap (of_run text w) is
+
+pub check_accepts : (a : Answer) (text : List ℕ) (tree : Module) (world : Option World) → a ≡ accepted → IfSome world (λ w. a ≡ of_tree Check text w tree)
+check_accepts a text tree None e = tt
+check_accepts a text tree (Some w) e = e
 
 -- ---- the answer to a query
 
-pub query_refused : (a : Answer) (query : List ℕ) (fault : Fault) (world : Option World) → front query ≡ Err fault → a ≡ refused query fault → IfSome world (λ w. a ≡ of_query [] w (Some query))
-query_refused a query fault None f e = tt
-query_refused a query fault (Some w) f e = e ∙ ap (of_front query w) (sym f)
+pub query_refused : (a : Answer) (task : Task) (query text : List ℕ) (fault : Fault) (world : Option World) → text ≡ without_mark query → IsFront query (Err fault)
+    → a ≡ refused text fault → IfSome world (λ w. IsOfQuery task w query a)
+query_refused a task query text fault None behind front e = tt
+query_refused a task query text fault (Some w) behind front e = (Err fault, front, e ∙ ap (λ t. refused t fault) behind)
 
-pub query_read : (a : Answer) (query name : List ℕ) (input : Option (List ℕ)) (world : Option World) → front query ≡ Ok name → IfSome world (λ w. input ≡ file_of w name)
-    → a ≡ of_result query (input_items input) → IfSome world (λ w. a ≡ of_query [] w (Some query))
-query_read a query name input None f i e = tt
-query_read a query name input (Some w) f i e = e ∙ ap (λ o. of_result query (input_items o)) i ∙ ap (of_front query w) (sym f)
+pub query_parsed : (a : Answer) (task : Task) (query text : List ℕ) (tree : Module) (world : Option World) → text ≡ without_mark query → IsFront query (Ok tree)
+    → IfSome world (λ w. a ≡ of_tree task text w tree) → IfSome world (λ w. IsOfQuery task w query a)
+query_parsed a task query text tree None behind front e = tt
+query_parsed a task query text tree (Some w) behind front e = (Ok tree, front, e ∙ ap (λ t. of_tree task t w tree) behind)
 
 -- ---- the answer to the words
 
-pub answer_usage : (a : Answer) (words : List (List ℕ)) (world : Option World) → query_of words ≡ None → a ≡ usage → IfSome world (λ w. a ≡ answer words w)
-unfolding answer
+pub answer_usage : (a : Answer) (words : List (List ℕ)) (world : Option World) → command_of words ≡ None → a ≡ usage → IfSome world (λ w. IsAnswer words w a)
+unfolding IsAnswer
 answer_usage a words None q e = tt
-answer_usage a words (Some w) q e = e ∙ ap (of_words w) (sym q)
+answer_usage a words (Some w) q e = rw q e
 
-pub answer_missing : (a : Answer) (words : List (List ℕ)) (name : List ℕ) (world : Option World) → query_of words ≡ Some name → IfSome world (λ w. None ≡ file_of w name)
-    → a ≡ says NoQuery (codes "no query " ++ encode_utf8_all name) → IfSome world (λ w. a ≡ answer words w)
-unfolding answer
-answer_missing a words name None q m e = tt
-answer_missing a words name (Some w) q m e = e ∙ ap (of_query name w) m ∙ ap (of_words w) (sym q)
+pub answer_missing : (a : Answer) (words : List (List ℕ)) (task : Task) (name : List ℕ) (world : Option World) → command_of words ≡ Some (task, name) → IfSome world (λ w. None ≡ file_of w name)
+    → a ≡ says NoQuery (codes "no query " ++ encode_utf8_all name) → IfSome world (λ w. IsAnswer words w a)
+unfolding IsAnswer
+answer_missing a words task name None q m e = tt
+answer_missing a words task name (Some w) q m e = subst (λ q. IsOfCommand w q a) (sym q) (subst (λ f. IsOfFile task name w f a) m e)
 
-pub answer_read : (a : Answer) (words : List (List ℕ)) (name query : List ℕ) (o : Option (List ℕ)) (world after : Option World) → query_of words ≡ Some name → IfSome world (λ w. o ≡ file_of w name)
-    → o ≡ Some query → after ≡ world → IfSome after (λ w. a ≡ of_query [] w (Some query)) → IfSome world (λ w. a ≡ answer words w)
-unfolding answer
-answer_read a words name query o world after q m is same h = go world (subst (λ (W : Option World). IfSome W (λ w. a ≡ of_query [] w (Some query))) same h) m
+pub answer_read : (a : Answer) (words : List (List ℕ)) (task : Task) (name query : List ℕ) (o : Option (List ℕ)) (world after : Option World) → command_of words ≡ Some (task, name)
+    → IfSome world (λ w. o ≡ file_of w name) → o ≡ Some query → after ≡ world → IfSome after (λ w. IsOfQuery task w query a) → IfSome world (λ w. IsAnswer words w a)
+unfolding IsAnswer
+answer_read a words task name query o world after q m is same h = go world (subst (λ (W : Option World). IfSome W (λ w. IsOfQuery task w query a)) same h) m
   where
-    go : (world : Option World) → IfSome world (λ w. a ≡ of_query [] w (Some query)) → IfSome world (λ w. o ≡ file_of w name) → IfSome world (λ w. a ≡ answer words w)
+    go : (world : Option World) → IfSome world (λ w. IsOfQuery task w query a) → IfSome world (λ w. o ≡ file_of w name) → IfSome world (λ w. IsAnswer words w a)
     go None h m = tt
-    go (Some w) h m = h ∙ ap (of_query name w) (sym is ∙ m) ∙ ap (of_words w) (sym q)
+    go (Some w) h m = subst (λ q. IsOfCommand w q a) (sym q) (subst (λ f. IsOfFile task name w f a) (sym is ∙ m) h)
 
 -- ---- shapes
 
 pub shaped_query : (name : List ℕ) (a : Answer) → IsOf a → IsShaped (Some name) a
 shaped_query name a h = go a.out a.err a.status h
   where
-    go : (out err : List ℕ) (s : Status) → IsOfQuery out err s → IsShaped (Some name) (record { status = s; out = out; err = err })
+    go : (out err : List ℕ) (s : Status) → IsOfStatus out err s → IsShaped (Some name) (record { status = s; out = out; err = err })
     go out err Done h = record { text = h; silent = tt; usage = tt }
     go out err Raised h = record { text = h.0; silent = h.1; usage = tt }
     go out err Refused h = record { text = h.0; silent = h.1; usage = tt }
@@ -75,3 +102,25 @@ shaped_query name a h = go a.out a.err a.status h
     go out err WriteFault h = absurd h
     go out err NoMemory h = absurd h
     go out err NoQuery h = absurd h
+
+-- ---- the status of a call
+
+pub ends_status : (a : Answer) (r : Status) (before after : ℕ) → EndsAs a.status r before after → StatusBy a r
+ends_status a WriteFault before after e = e.0
+ends_status a ReadFault before after e = tt
+ends_status a NoMemory before after e = tt
+ends_status a Done before after e = sym e.0
+ends_status a Raised before after e = sym e.0
+ends_status a Refused before after e = sym e.0
+ends_status a Usage before after e = sym e.0
+ends_status a NoQuery before after e = sym e.0
+
+pub ends_complete : (a : Answer) (r : Status) (before after : ℕ) → Calm before after → EndsAs a.status r before after → Completes a r
+ends_complete a WriteFault before after calm e = absurd (omega (arith, calm.0, calm.1, e.1))
+ends_complete a ReadFault before after calm e = inr e.0
+ends_complete a NoMemory before after calm e = inr e.0
+ends_complete a Done before after calm e = inr e.0
+ends_complete a Raised before after calm e = inr e.0
+ends_complete a Refused before after calm e = inr e.0
+ends_complete a Usage before after calm e = inr e.0
+ends_complete a NoQuery before after calm e = inr e.0

@@ -1,15 +1,14 @@
 -- Texts as bytes and as characters.
-use Rattle.std.proofs.Common.{◌≡◌, ◌<◌, ℕ, zero, suc, ◌∷◌, [], ◌++◌, List, Bool, true, false, ◌==◌, get_or, length, refl, sym, ap, ◌∙◌, arith}
-use Rattle.std.specs.Prelude.{◌&&◌}
-use Rattle.std.specs.List.{list_all, All}
+use Rattle.std.proofs.Common.{◌≡◌, ◌<◌, ℕ, zero, suc, ◌∷◌, [], ◌++◌, List, Bool, true, ◌==◌, get_or, length, refl, sym, ap, ◌∙◌, arith, Option, Some, None, codes, lit<}
 use Rattle.std.specs.Str.{IsAscii, bytes_eq, encode_utf8_all, all_scalars}
 use Rattle.std.proofs.lemmas.Bool.Decides.{Decides-eqb, Decides-like, same_from_decides}
-use Rattle.std.proofs.lemmas.Grind.{common_steps}
 use Rattle.std.proofs.lemmas.Slice.Eq.{bytes_eq-Decides}
 use Rattle.std.proofs.lemmas.Str.{chars-encodes, chars-IsAscii, encodes-IsAscii, encode_ascii, char_from_byte, length-le-encodes}
-use Rattle.std.proofs.lemmas.Str.Ascii.{IsAscii-from_all}
 use Rattle.std.specs.Str.{chars}
-use Rattle.rumble_run.specs.Query.{is_name_byte, is_name}
+use Rattle.std.specs.Prelude.{if◌then◌else◌}
+use Rattle.rumble_run.specs.Command.{task_of}
+use Rattle.rumble_run.specs.declared.words.Task.{Task}
+use Rattle.rumble_run.specs.declared.words.Task.TheVariants.{Run, Check}
 
 -- a text is an ASCII word exactly where its characters are
 pub bytes_eq-encoded : (cs word : List ℕ) → all_scalars cs ≡ true → IsAscii word → bytes_eq (encode_utf8_all cs) word ≡ bytes_eq cs word
@@ -32,18 +31,38 @@ first-encoded (d ∷ ds) c lt = same_from_decides _ _ (Decides-like _ there back
     back : d ≡ c → get_or (encode_utf8_all (d ∷ ds)) 0 0 ≡ c
     back e = rw e (ap (λ bs. get_or (bs ++ encode_utf8_all ds) 0 0) (encode_ascii c lt))
 
-both : (a b : Bool) → (a && b) ≡ true → (a ≡ true) × (b ≡ true)
-both true b e = (refl, e)
-both false b e = cc
+pub IsAscii-run : IsAscii (codes "run")
+IsAscii-run zero = lit< tt
+IsAscii-run (suc zero) = lit< tt
+IsAscii-run (suc (suc zero)) = lit< tt
+IsAscii-run (suc (suc (suc i))) = lit< tt
 
-name_byte_below : (b : ℕ) → is_name_byte b ≡ true → b < 128
-name_byte_below b e = grind (arith, common_steps)
+pub IsAscii-check : IsAscii (codes "check")
+IsAscii-check zero = lit< tt
+IsAscii-check (suc zero) = lit< tt
+IsAscii-check (suc (suc zero)) = lit< tt
+IsAscii-check (suc (suc (suc zero))) = lit< tt
+IsAscii-check (suc (suc (suc (suc zero)))) = lit< tt
+IsAscii-check (suc (suc (suc (suc (suc i))))) = lit< tt
 
-name_bytes_below : (text : List ℕ) → list_all is_name_byte text ≡ true → All (λ b. b < 128) text
-name_bytes_below [] e k d lt = absurd (omega arith)
-name_bytes_below (b ∷ bs) e zero d lt = name_byte_below b (both _ _ e).0
-name_bytes_below (b ∷ bs) e (suc k) d lt = name_bytes_below bs (both _ _ e).1 k d (omega arith)
+pub IsAscii-json_lines : IsAscii (codes "json-lines")
+IsAscii-json_lines zero = lit< tt
+IsAscii-json_lines (suc zero) = lit< tt
+IsAscii-json_lines (suc (suc zero)) = lit< tt
+IsAscii-json_lines (suc (suc (suc zero))) = lit< tt
+IsAscii-json_lines (suc (suc (suc (suc zero)))) = lit< tt
+IsAscii-json_lines (suc (suc (suc (suc (suc zero))))) = lit< tt
+IsAscii-json_lines (suc (suc (suc (suc (suc (suc zero)))))) = lit< tt
+IsAscii-json_lines (suc (suc (suc (suc (suc (suc (suc zero))))))) = lit< tt
+IsAscii-json_lines (suc (suc (suc (suc (suc (suc (suc (suc zero)))))))) = lit< tt
+IsAscii-json_lines (suc (suc (suc (suc (suc (suc (suc (suc (suc zero))))))))) = lit< tt
+IsAscii-json_lines (suc (suc (suc (suc (suc (suc (suc (suc (suc (suc i)))))))))) = lit< tt
 
--- the name of an input is ASCII
-pub IsAscii-name : (text : List ℕ) → is_name text ≡ true → IsAscii text
-IsAscii-name text e = IsAscii-from_all text (name_bytes_below text (both _ _ e).1)
+abbrev by_tests : Bool → Bool → Option Task
+by_tests run check = if run then Some Run else (if check then Some Check else None)
+
+-- a text is the name of a command exactly where its characters are
+pub task_encoded : (cs : List ℕ) → all_scalars cs ≡ true → task_of (encode_utf8_all cs) ≡ task_of cs
+task_encoded cs s =
+    ap (λ b. by_tests b (bytes_eq (encode_utf8_all cs) (codes "check"))) (bytes_eq-encoded cs (codes "run") s IsAscii-run)
+    ∙ ap (by_tests (bytes_eq cs (codes "run"))) (bytes_eq-encoded cs (codes "check") s IsAscii-check)

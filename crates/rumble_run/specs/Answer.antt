@@ -1,18 +1,24 @@
 -- The answer to a command line over a world of inputs: a status, with the bytes for the output and for the errors.
-use Rattle.std.specs.Prelude.{ℕ, List, [], ◌∷◌, ◌++◌, Option, None, Some, Result, Ok, Err, ◌&&◌, ◌==◌, not, if◌then◌else◌, codes, slice_index}
-use Rattle.std.specs.Str.{bytes_eq, encode_utf8_all}
+use Rattle.std.specs.Prelude.{◌≡◌, ℕ, List, [], ◌∷◌, ◌++◌, Option, None, Some, IfSome, Result, Ok, Err, codes}
+use Rattle.std.specs.Str.{encode_utf8_all}
 use Rattle.item_tree.specs.declared.code.Code.{Code}
-use Rattle.item_tree.specs.declared.code.Code.TheVariants.{FODC0002}
+use Rattle.item_tree.specs.declared.code.Code.TheVariants.{FODC0002, PJST0099}
 use Rattle.item_tree.specs.declared.fault.Fault.{Fault}
 use Rattle.item_tree.specs.Codes.{code_text}
 use Rattle.item_tree.specs.Datum.{Datum}
 use Rattle.item_tree.specs.ItemText.{item_text}
+use Rattle.item_reader.specs.Lines.{without_mark}
 use Rattle.item_reader.specs.Reading.{items_of}
 use Rattle.outside.specs.World.{World, file_of}
-use Rattle.rumble_run.specs.Query.{front}
+use Rattle.query_grammar.specs.Nodes.{Name, Module}
+use Rattle.rumble_run.specs.Built.{input_of}
+use Rattle.rumble_run.specs.Command.{command_of}
+use Rattle.rumble_run.specs.Front.{Front, IsFront}
 use Rattle.rumble_run.specs.Place.{place_text}
 use Rattle.rumble_run.specs.declared.status.Status.{Status}
 use Rattle.rumble_run.specs.declared.status.Status.TheVariants.{Done, Raised, Refused, Usage, NoQuery}
+use Rattle.rumble_run.specs.declared.words.Task.{Task}
+use Rattle.rumble_run.specs.declared.words.Task.TheVariants.{Run, Check}
 
 pub record Answer : Type 0 where
   pub status : Status
@@ -29,13 +35,20 @@ says status text = record { status = status; out = []; err = lined text }
 
 -- a fault of a query's text, as `CODE at LINE:COLUMN`
 abbrev pub fault_text : List ℕ → Fault → List ℕ
-fault_text query fault = code_text fault.code ++ codes " at " ++ place_text query fault.place
+fault_text text fault = code_text fault.code ++ codes " at " ++ place_text text fault.place
 
 abbrev pub refused : List ℕ → Fault → Answer
-refused query fault = says Refused (codes "refused " ++ fault_text query fault)
+refused text fault = says Refused (codes "refused " ++ fault_text text fault)
 
 abbrev pub raised : List ℕ → Fault → Answer
-raised query fault = says Raised (codes "raised " ++ fault_text query fault)
+raised text fault = says Raised (codes "raised " ++ fault_text text fault)
+
+-- an answer that writes something
+abbrev pub writes : List ℕ → Answer
+writes out = record { status = Done; out = out; err = [] }
+
+abbrev pub accepted : Answer
+accepted = writes (lined (codes "accepted"))
 
 -- the text of each item on a line of its own
 abbrev pub output_of : List Datum → List ℕ
@@ -43,42 +56,54 @@ output_of [] = []
 output_of (x ∷ xs) = item_text x ++ 10 ∷ output_of xs
 
 abbrev pub prints : List Datum → Answer
-prints items = record { status = Done; out = output_of items; err = [] }
+prints items = writes (output_of items)
 
--- what `json-lines` of a name gives over a world, at the name's place
-abbrev pub at_start : Result (List Datum) Code → Result (List Datum) Fault
-at_start (Ok items) = Ok items
-at_start (Err code) = Err (record { code = code; place = 0 })
+-- what `json-lines` at this place gives, by the bytes of its input
+abbrev pub at_place : ℕ → Result (List Datum) Code → Result (List Datum) Fault
+at_place place (Ok items) = Ok items
+at_place place (Err code) = Err (record { code = code; place = place })
 
-abbrev pub input_items : Option (List ℕ) → Result (List Datum) Fault
-input_items None = at_start (Err FODC0002)
-input_items (Some bytes) = at_start (items_of bytes)
+abbrev pub input_items : ℕ → Option (List ℕ) → Result (List Datum) Fault
+input_items place None = at_place place (Err FODC0002)
+input_items place (Some bytes) = at_place place (items_of bytes)
 
 abbrev pub of_result : List ℕ → Result (List Datum) Fault → Answer
-of_result query (Ok items) = prints items
-of_result query (Err fault) = raised query fault
+of_result text (Ok items) = prints items
+of_result text (Err fault) = raised text fault
 
--- a query that was read: refused, or run
-abbrev pub of_front : List ℕ → World → Result (List ℕ) Fault → Answer
-of_front query world (Ok name) = of_result query (input_items (file_of world name))
-of_front query world (Err fault) = refused query fault
+-- a query that is run: its input's items, or it is not built yet
+abbrev pub of_run : List ℕ → World → Option (Name × ℕ) → Answer
+of_run text world None = refused text (record { code = PJST0099; place = 0 })
+of_run text world (Some input) = of_result text (input_items input.1 (file_of world input.0))
 
-abbrev pub of_query : List ℕ → World → Option (List ℕ) → Answer
-of_query name world None = says NoQuery (codes "no query " ++ encode_utf8_all name)
-of_query name world (Some query) = of_front query world (front query)
+abbrev pub of_tree : Task → List ℕ → World → Module → Answer
+of_tree Check text world tree = accepted
+of_tree Run text world tree = of_run text world (input_of tree)
+
+-- a query with this front: refused, or the task is done
+abbrev pub of_front : Task → List ℕ → World → Front → Answer
+of_front task text world (Ok tree) = of_tree task text world tree
+of_front task text world (Err fault) = refused text fault
+
+-- the answer to a query of these bytes
+abbrev pub IsOfQuery : Task → World → List ℕ → Answer → Type 0
+IsOfQuery task world query answer = (front : Front) × IsFront query front × (answer ≡ of_front task (without_mark query) world front)
+
+abbrev pub IsOfFile : Task → List ℕ → World → Option (List ℕ) → Answer → Type 0
+IsOfFile task name world None answer = answer ≡ says NoQuery (codes "no query " ++ encode_utf8_all name)
+IsOfFile task name world (Some query) answer = IsOfQuery task world query answer
 
 abbrev pub usage : Answer
 usage = says Usage (codes "usage: rumble run QUERY | check QUERY | explain QUERY | trial NUMBER LINES")
 
--- the query that the words name, which are `run QUERY`
-abbrev pub query_of : List (List ℕ) → Option (List ℕ)
-query_of (command ∷ query ∷ []) = if bytes_eq command (codes "run") && not (slice_index query 0 == 45) then Some query else None
-query_of _ = None
+abbrev pub IsOfCommand : World → Option (Task × List ℕ) → Answer → Type 0
+IsOfCommand world None answer = answer ≡ usage
+IsOfCommand world (Some command) answer = IsOfFile command.0 command.1 world (file_of world command.1) answer
 
-abbrev pub of_words : World → Option (List ℕ) → Answer
-of_words world None = usage
-of_words world (Some name) = of_query name world (file_of world name)
+-- the answer to a command line over a world; by a law there is one, and only one
+unfoldable pub IsAnswer : List (List ℕ) → World → Answer → Type 0
+IsAnswer words world answer = IsOfCommand world (command_of words) answer
 
--- the answer to a command line over a world
-unfoldable pub answer : List (List ℕ) → World → Answer
-answer words world = of_words world (query_of words)
+-- where the world is told, this holds of the answer
+abbrev pub OfAnswer : Option World → List (List ℕ) → (Answer → Type 0) → Type 0
+OfAnswer world words Holds = IfSome world (λ w. (answer : Answer) → IsAnswer words w answer → Holds answer)

@@ -1,11 +1,10 @@
 -- What a call of the program leaves, by the status that it ends with.
-use Rattle.std.specs.Prelude.{◌≡◌, ◌<◌, ◌≤◌, ◌⊎◌, ◌+◌, ◌-◌, ◌^◌, ℕ, List, [], ◌∷◌, ◌++◌, Option, Some, IfSome, codes}
+use Rattle.std.specs.Prelude.{◌≡◌, ◌<◌, ◌≤◌, ◌⊎◌, ◌+◌, ◌-◌, ◌^◌, ℕ, List, [], ◌∷◌, ◌++◌, Option, Some, codes}
 use Rattle.std.specs.Fmt.{decimal}
 use Rattle.std.specs.Str.{encode_utf8_all}
 use Rattle.item_tree.specs.declared.code.Code.{Code}
 use Rattle.item_tree.specs.Codes.{code_text}
 use Rattle.outside.specs.Counted.{Rose, RoseByOne, appended, CutShort}
-use Rattle.outside.specs.World.{World}
 use Rattle.rumble_run.specs.Answer.{Answer, lined, usage}
 use Rattle.rumble_run.specs.declared.status.Status.{Status}
 use Rattle.rumble_run.specs.declared.status.Status.TheVariants.{Done, Raised, Refused, Usage, ReadFault, WriteFault, NoMemory, NoQuery}
@@ -63,8 +62,8 @@ abbrev pub Calm : ℕ → ℕ → Type 0
 Calm before after = (after ≤ before) × (after < 2 ^ 64 - 1)
 
 -- where no object that was handed in failed, the call ends with the answer's status, or for want of memory
-abbrev pub Completes : Option World → (World → Answer) → Status → Type 0
-Completes world answers status = IfSome world (λ w. (status ≡ NoMemory) ⊎ (status ≡ (answers w).status))
+abbrev pub Completes : Answer → Status → Type 0
+Completes a status = (status ≡ NoMemory) ⊎ (status ≡ a.status)
 
 -- which files were looked for: with a refusal the query's alone, which was there; with a missing query that one; without a command none
 abbrev pub OpensBy : Status → ℕ → ℕ → ℕ → ℕ → Type 0

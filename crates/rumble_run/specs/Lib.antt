@@ -1,6 +1,9 @@
-pub mod Query
+pub mod Command
 pub mod Place
+pub mod Front
+pub mod Built
 pub mod Answer
+pub mod Laws
 pub mod Ends
 pub mod Reads
 pub mod Seen

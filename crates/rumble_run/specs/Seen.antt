@@ -1,8 +1,15 @@
--- How contracts see an ending.
-use Rattle.std.specs.Prelude.{◌≡◌, ℕ, List, [], Option, None, string_bytes}
+-- How contracts see an ending, and a front.
+use Rattle.std.specs.Prelude.{◌≡◌, ℕ, List, [], Option, None, Some, Result, Ok, Err, string_bytes}
 use Rattle.outside.specs.Counted.{Rose}
+use Rattle.query_tree.specs.Modules.{PlainModule, module_of}
+use Rattle.query_tree.specs.declared.module.Module.{Module}
+use Rattle.query_tree.specs.declared.names.TypeName.{TypeName}
+use Rattle.query_grammar.specs.Nodes.{Name}
 use Rattle.rumble_run.specs.Answer.{Answer}
 use Rattle.rumble_run.specs.Ends.{HasText}
+use Rattle.rumble_run.specs.Front.{Front}
+use Rattle.rumble_run.specs.declared.front.FrontFault.{FrontFault}
+use Rattle.rumble_run.specs.declared.front.FrontFault.TheVariants as front
 use Rattle.rumble_run.specs.declared.status.Status.{Status}
 use Rattle.rumble_run.specs.declared.status.Status.TheVariants.{Done, Raised, Refused, Usage, ReadFault, WriteFault, NoMemory}
 use Rattle.rumble_run.specs.declared.ending.Ending.{Ending}
@@ -31,13 +38,23 @@ pub record IsShaped (name : Option (List ℕ)) (a : Answer) : Type 0 where
   pub usage : IsUsage name a.status
 
 -- what a query that was read comes to: items, or a fault or a refusal with its code
-abbrev pub IsOfQuery : List ℕ → List ℕ → Status → Type 0
-IsOfQuery out err Done = HasText None err Done
-IsOfQuery out err Raised = HasText None err Raised × (out ≡ [])
-IsOfQuery out err Refused = HasText None err Refused × (out ≡ [])
-IsOfQuery out err _ = ⊥
+abbrev pub IsOfStatus : List ℕ → List ℕ → Status → Type 0
+IsOfStatus out err Done = HasText None err Done
+IsOfStatus out err Raised = HasText None err Raised × (out ≡ [])
+IsOfStatus out err Refused = HasText None err Refused × (out ≡ [])
+IsOfStatus out err _ = ⊥
 
 -- the status that an ending comes to: its own, or that writing Done's output failed
 abbrev pub EndsAs : Status → Status → ℕ → ℕ → Type 0
 EndsAs status WriteFault before after = (status ≡ Done) × Rose before after
 EndsAs status result before after = (result ≡ status) × (after ≡ before)
+
+-- a query's tree as a plain value
+abbrev pub plain_of : Module Name Name TypeName → PlainModule Name Name TypeName
+plain_of query = module_of Name Name TypeName query
+
+-- a front that was found, where memory was there
+abbrev pub front_of : Result (Module Name Name TypeName) FrontFault → Option Front
+front_of (Ok query) = Some (Ok (plain_of query))
+front_of (Err (front.Refused fault)) = Some (Err fault)
+front_of (Err front.NoMemory) = None

@@ -1,69 +1,56 @@
-ghost use Rattle.std.specs.Prelude.{◌≡◌, ◌++◌, Ok, Err, true, false, MatchResult, MatchOption};
-ghost use Rattle.std.specs.Str.{chars};
-ghost use Rattle.std.specs.List.{list_all};
-ghost use Rattle.rumble_run.specs.Query.{front, between, stand_round, is_name, is_name_byte};
+ghost use Rattle.std.specs.Prelude.{◌≡◌, IfSome};
+ghost use Rattle.rumble_run.specs.Front.{IsFront, IsFrontOfText};
+ghost use Rattle.rumble_run.specs.Seen.{front_of};
 
+use crate::mark::without_mark;
 use item_tree::{Code, Fault};
+use query_lexer::{LexFault, tokens};
+use query_parser::{ParseFault, parse};
+use query_tree::Query;
+use std::alloc::Global;
 
-/// What stands round the name in a query.
-const OPENING: &[u8] = b"json-lines(\"";
+/// How many bytes a query may have, with a byte order mark.
+const MAX_LENGTH: usize = 1_048_576;
 
-const CLOSING: &[u8] = b"\")";
-
-fn is_name_byte(byte: u8) -> bool
-    ensures { result ≡ is_name_byte byte }
-{
-    byte.is_ascii_alphanumeric() || byte == b'_' || byte == b'-' || byte == b'.'
+/// Why a query has no tree.
+#[derive(Debug, Drop)]
+pub(crate) enum FrontFault {
+    /// The query is refused. The place counts behind a byte order mark.
+    Refused(Fault),
+    NoMemory,
 }
 
-fn are_name_bytes(text: &[u8]) -> bool
-    ensures { result ≡ list_all is_name_byte text.now }
+fn refused(code: Code, place: u32) -> FrontFault
+    ensures { result ≡ FrontFault.Refused (record { code = code; place = place }) }
 {
-    text.iter().all(|b| is_name_byte(*b))
+    FrontFault::Refused(Fault { code, place })
 }
 
-fn is_name(text: &[u8]) -> bool
-    ensures { result ≡ is_name text.now }
+// The tree of a text, or its first refusal.
+fn front_of_text(alloc: Global, text: &str) -> Result<Query, FrontFault>
+    ensures { IfSome (front_of result) (λ front. IsFrontOfText text.now front) }
 {
-    !text.is_empty() && are_name_bytes(text)
-}
-
-// What stands between two texts, where they stand at both ends.
-fn between<'a>(text: &'a [u8], front: &[u8], back: &[u8]) -> Option<&'a [u8]>
-    ensures { MatchOption result (stand_round front.now back.now text.now ≡ false) (λ middle. (stand_round front.now back.now text.now ≡ true) × (middle.now ≡ between front.now back.now text.now)) }
-{
-    match text.strip_prefix(front) {
-        Some(rest) => rest.strip_suffix(back),
-        None => None,
+    let tokens = match tokens(alloc, text) {
+        Ok(tokens) => tokens,
+        Err(LexFault::Refused { code, place }) => return Err(refused(code, place)),
+        Err(LexFault::NoMemory) => return Err(FrontFault::NoMemory),
+    };
+    match parse(alloc, text, &tokens) {
+        Ok(query) => Ok(query),
+        Err(ParseFault::Refused { code, place }) => Err(refused(code, place)),
+        Err(ParseFault::NoMemory) => Err(FrontFault::NoMemory),
     }
 }
 
-// A name as the text that it is.
-fn name_text(name: &[u8]) -> Option<&str>
-    ensures { MatchOption result (is_name name.now ≡ false) (λ text. (is_name name.now ≡ true) × (chars text.now ≡ name.now)) }
+/// The tree of a query of these bytes, or its first refusal.
+pub(crate) fn front(alloc: Global, query: &[u8]) -> Result<Query, FrontFault>
+    ensures { IfSome (front_of result) (λ front. IsFront query.now front) }
 {
-    if !is_name(name) {
-        return None;
+    if query.len() > MAX_LENGTH {
+        return Err(refused(Code::PJST0005, 0));
     }
-    let Ok(text) = std::str::from_utf8(name) else {
-        unreachable!()
-    };
-    Some(text)
-}
-
-/// The name of the input that a query reads, or why the query is refused.
-pub(crate) fn front(query: &[u8]) -> Result<&str, Fault>
-    ensures { MatchResult result (λ name. front query.now ≡ Ok (chars name.now)) (λ fault. front query.now ≡ Err fault) }
-{
-    let fault = Fault {
-        code: Code::PJST0099,
-        place: 0,
-    };
-    match between(query, OPENING, CLOSING) {
-        Some(name) => match name_text(name) {
-            Some(text) => Ok(text),
-            None => Err(fault),
-        },
-        None => Err(fault),
+    match std::str::from_utf8(without_mark(query)) {
+        Ok(text) => front_of_text(alloc, text),
+        Err(fault) => Err(refused(Code::XPST0003, fault.valid_up_to() as u32)),
     }
 }

@@ -1,25 +1,14 @@
 ghost use Rattle.std.specs.Prelude.{◌≡◌, ◌≤◌, [], ◌∷◌, ◌++◌, length, ◌==◌, position, Ok, Err, IfOk, IfErr, IfSome, OnOk, option_copied};
 ghost use Rattle.item_tree.specs.Item.{datums};
-ghost use Rattle.item_reader.specs.Lines.{cut, without_mark};
+ghost use Rattle.item_reader.specs.Lines.{cut};
 ghost use Rattle.item_reader.specs.Reading.{items_of};
 ghost use Rattle.item_reader.specs.Faults.{code_of};
 ghost use Rattle.rumble_run.specs.Cuts.{lines_of, left_length};
 
+use crate::mark::without_mark;
 use item_reader::{LineFault, read_item};
 use item_tree::Item;
 use std::alloc::Global;
-
-/// The byte order mark of UTF-8.
-const MARK: &[u8] = b"\xef\xbb\xbf";
-
-fn without_mark(input: &[u8]) -> &[u8]
-    ensures { result.now ≡ without_mark input.now }
-{
-    match input.strip_prefix(MARK) {
-        Some(rest) => rest,
-        None => input,
-    }
-}
 
 fn first_line_feed(input: &[u8]) -> Option<usize>
     ensures { result ≡ position (λ b. b == 10) input.now }

@@ -2,16 +2,20 @@
 //! a status comes out.
 #![tactic(auto)]
 
-ghost use Rattle.std.specs.Prelude.{◌≡◌, ◌≢◌, ◌≤◌, ◌<◌, ◌⊎◌, ℕ, List, None, IfSome};
+ghost use Rattle.std.specs.Prelude.{◌≡◌, ◌≢◌, ◌≤◌, ◌<◌, ◌⊎◌, ℕ, List, None};
 ghost use Rattle.outside.specs.Counted.{Rose};
-ghost use Rattle.rumble_run.specs.Answer.{answer, query_of};
+ghost use Rattle.rumble_run.specs.Answer.{OfAnswer};
+ghost use Rattle.rumble_run.specs.Command.{query_of};
 ghost use Rattle.rumble_run.specs.Ends.{StatusBy, OutBy, err_by, HasText, Wrote, IsBalanced, Calm, Completes, OpensBy};
 
+mod built;
 mod decide;
 mod ending;
 mod finish;
 mod front;
 mod items;
+pub mod laws;
+mod mark;
 mod place;
 mod print;
 mod read;
@@ -45,10 +49,10 @@ pub fn rumble<R: Threads + Wait + Sync, I: Inputs, O: Sink, E: Sink, G: Gate>(
     _gate: &G,
 ) -> Status
     // Over inputs that tell their bytes, the run ends with the definition's answer.
-    ensures status { IfSome (I.world inputs.old) (λ w. StatusBy (answer words.now w) result) }
-    ensures output { IfSome (I.world inputs.old) (λ w. OutBy (answer words.now w).out result (O.wrote out.old) (O.wrote out.new)) }
-    ensures text { IfSome (I.world inputs.old) (λ w. Wrote (err_by (answer words.now w).err result) (E.wrote err.old) (E.wrote err.new) (E.faults err.old) (E.faults err.new)) }
-    ensures completes { Calm (I.faults inputs.old) (I.faults inputs.new) → Calm (O.faults out.old) (O.faults out.new) → Completes (I.world inputs.old) (answer words.now) result }
+    ensures status { OfAnswer (I.world inputs.old) words.now (λ answer. StatusBy answer result) }
+    ensures output { OfAnswer (I.world inputs.old) words.now (λ answer. OutBy answer.out result (O.wrote out.old) (O.wrote out.new)) }
+    ensures text { OfAnswer (I.world inputs.old) words.now (λ answer. Wrote (err_by answer.err result) (E.wrote err.old) (E.wrote err.new) (E.faults err.old) (E.faults err.new)) }
+    ensures completes { Calm (I.faults inputs.old) (I.faults inputs.new) → Calm (O.faults out.old) (O.faults out.new) → OfAnswer (I.world inputs.old) words.now (λ answer. Completes answer result) }
 
     // Over any others, what is written has the status's form.
     ensures untold_output { (bytes : List ℕ) × OutBy bytes result (O.wrote out.old) (O.wrote out.new) }

@@ -9,7 +9,7 @@ use std::thread::Threads;
 
 const USAGE: &str = "usage: rumble run QUERY | check QUERY | explain QUERY | trial NUMBER LINES\n";
 
-const ONE_QUERY: &str = "json-lines(\"a\")";
+const ONE_QUERY: &[u8] = b"json-lines(\"a\")";
 
 /// What a run leaves.
 #[derive(Drop)]
@@ -26,9 +26,9 @@ fn add(alloc: Global, files: &mut Files, name: &str, bytes: &[u8]) -> Result<(),
     Ok(())
 }
 
-fn two_files(alloc: Global, query: &str, input: &[u8]) -> Result<Files, Fail> {
+fn two_files(alloc: Global, query: &[u8], input: &[u8]) -> Result<Files, Fail> {
     let mut files = Vec::new(alloc);
-    add(alloc, &mut files, "q", query.as_bytes())?;
+    add(alloc, &mut files, "q", query)?;
     add(alloc, &mut files, "a", input)?;
     Ok(files)
 }
@@ -64,7 +64,7 @@ fn run<R: Threads + Wait + Sync, I: Inputs + Drop>(
     Ok(Outcome { status, out, err })
 }
 
-// The output for an input, with the query that is built.
+// The output for an input, with a query that reads it.
 fn lines_of<R: Threads + Wait + Sync + Abort>(
     rt: &R,
     alloc: Global,
@@ -188,32 +188,200 @@ fn keeps_the_depth(rt: HostRuntime) -> Result<(), Fail> {
     Ok(())
 }
 
-// What each query comes to, over an input `a` and none other.
+// What a command does with a query, over an input `a` that holds the line 1, and none other. A second
+// open would fail where the query may open nothing else.
+fn asked<R: Threads + Wait + Sync + Abort>(
+    rt: &R,
+    alloc: Global,
+    command: &str,
+    query: &[u8],
+    alone: bool,
+) -> Result<Outcome, Fail> {
+    let files = two_files(alloc, query, b"1\n")?;
+    assert!(rt; names_differ(&files));
+    let fails = if alone {
+        failing(alloc, &[2], &[])?
+    } else {
+        failing(alloc, &[], &[])?
+    };
+    let inputs = MemInputs::new(alloc, files, fails)?;
+    run(rt, alloc, &[command, "q"], inputs, (100, 100))
+}
+
+fn assert_refused<R: Threads + Wait + Sync + Abort>(
+    rt: &R,
+    alloc: Global,
+    command: &str,
+    query: &[u8],
+    at: &str,
+) -> Result<(), Fail> {
+    let left = asked(rt, alloc, command, query, true)?;
+    let text = format!(in alloc; "refused {at}\n")?;
+    assert_eq!(rt; left.err.bytes(), text.as_bytes(), "{command} of {query:?}");
+    assert_eq!(rt; left.status, Status::Refused, "{command} of {query:?}");
+    assert!(rt; left.out.bytes().is_empty(), "{command} of {query:?}");
+    Ok(())
+}
+
+fn assert_accepted<R: Threads + Wait + Sync + Abort>(
+    rt: &R,
+    alloc: Global,
+    query: &[u8],
+) -> Result<(), Fail> {
+    let left = asked(rt, alloc, "check", query, true)?;
+    assert_eq!(rt; left.out.bytes(), b"accepted\n".as_slice(), "at {query:?}");
+    assert!(rt; left.err.bytes().is_empty(), "at {query:?}");
+    assert_eq!(rt; left.status, Status::Done, "at {query:?}");
+    Ok(())
+}
+
+// One byte so often, and then another one so often.
+fn repeated(alloc: Global, first: (u8, usize), then: (u8, usize)) -> Result<Vec<u8>, Fail> {
+    let mut text = vec![in alloc; first.0; first.1]?;
+    for _ in 0..then.1 {
+        text.push(then.0)?;
+    }
+    Ok(text)
+}
+
+// Queries that are accepted, and opened alone.
 #[test]
-fn refuses_and_misses(rt: HostRuntime) -> Result<(), Fail> {
+fn accepts_queries(rt: HostRuntime) -> Result<(), Fail> {
     let alloc = rt.alloc();
-    let refused = (Status::Refused, "refused PJST0099 at 1:1\n");
-    let missing = (Status::Raised, "raised FODC0002 at 1:1\n");
-    let cases = [
-        ("1", refused),
-        ("", refused),
-        ("json-lines(\"\")", refused),
-        ("json-lines(\"a b\")", refused),
-        ("json-lines(\"\u{fc}\")", refused),
-        ("json-lines(\"a\") ", refused),
-        (" json-lines(\"a\")", refused),
-        ("json-lines(\")", refused),
-        ("json-lines(\"none\")", missing),
-        ("json-lines(\"-a.b_C9\")", missing),
+    let cases: [&[u8]; 9] = [
+        b"1",
+        b"json-lines(\"a\")",
+        b"count(json-lines(\"a\"))",
+        b"json-lines(\"none\")",
+        b"99999999999999999999",
+        b"\xef\xbb\xbf1",
+        b"\"M\xc3\xbcsli\"",
+        b" (: a (: b :) :) {\"k\": [1, 2.5]}.k[[1]]\n",
+        b"declare variable $x := 1; for $y in 1 to $x return $y",
     ];
-    for (query, (status, err)) in cases {
-        let files = two_files(alloc, query, b"1\n")?;
-        assert!(rt; names_differ(&files));
-        let inputs = MemInputs::steady(alloc, files)?;
-        let left = run(&rt, alloc, &["run", "q"], inputs, (100, 100))?;
-        assert_eq!(rt; left.status, status, "at {query}");
-        assert!(rt; left.out.bytes().is_empty(), "at {query}");
-        assert_eq!(rt; left.err.bytes(), err.as_bytes(), "at {query}");
+    for query in cases {
+        assert_accepted(&rt, alloc, query)?;
+    }
+    assert_accepted(&rt, alloc, &repeated(alloc, (b'(', 100), (b')', 100))?)?;
+    // As long as a query may be.
+    assert_accepted(&rt, alloc, &repeated(alloc, (b'1', 1), (b' ', 1_048_575))?)
+}
+
+// Each refusal with its code and its place. `run` has the same as `check`.
+#[test]
+fn refuses_queries(rt: HostRuntime) -> Result<(), Fail> {
+    let alloc = rt.alloc();
+    let cases: [(&[u8], &str); 22] = [
+        (b"1e0", "PJST0001 at 1:1"),
+        (b"", "XPST0003 at 1:1"),
+        (b"1 +", "XPST0003 at 1:4"),
+        (b"1 +\n", "XPST0003 at 2:1"),
+        (b"count(1,\n  )", "XPST0003 at 2:3"),
+        (b"(: \xc3\xbc :) )", "XPST0003 at 1:9"),
+        (b"100000000000000000000", "PJST0004 at 1:1"),
+        (b"1 (: a (: b :)", "XPST0003 at 1:3"),
+        (b"\n\"a", "XPST0003 at 2:1"),
+        (b"1a", "XPST0003 at 1:1"),
+        (b"1 ~", "XPST0003 at 1:3"),
+        // A lexical refusal goes before one of the grammar.
+        (b") ~", "XPST0003 at 1:3"),
+        (b"1e0 100000000000000000000", "PJST0004 at 1:5"),
+        // Places count behind a byte order mark, of which one is skipped.
+        (b"\xef\xbb\xbf1 +", "XPST0003 at 1:4"),
+        (b"\xef\xbb\xbf", "XPST0003 at 1:1"),
+        (b"\xef\xbb\xbf\xef\xbb\xbf1", "XPST0003 at 1:1"),
+        // Bytes that are part of no character, which go before all else in the text.
+        (b"\xe2\x82A", "XPST0003 at 1:1"),
+        (b"\xef\xbb\xbf1\n \xff", "XPST0003 at 2:2"),
+        (b"1 (: \xc3\xbc :) \xc3", "XPST0003 at 1:11"),
+        (b"\"\xed\xa0\x80\"", "XPST0003 at 1:2"),
+        (b"\xf0\x9f\x98", "XPST0003 at 1:1"),
+        (b"100000000000000000000 \x80", "XPST0003 at 1:23"),
+    ];
+    for (query, at) in cases {
+        assert_refused(&rt, alloc, "check", query, at)?;
+        assert_refused(&rt, alloc, "run", query, at)?;
+    }
+    let nested = repeated(alloc, (b'(', 101), (b')', 101))?;
+    assert_refused(&rt, alloc, "check", &nested, "PJST0003 at 1:101")?;
+    // A query that is too long is refused whatever it holds.
+    let long = repeated(alloc, (b'\xff', 1), (b' ', 1_048_576))?;
+    assert_refused(&rt, alloc, "check", &long, "PJST0005 at 1:1")?;
+    let mut marked = b"\xef\xbb\xbf1".to_vec(alloc)?;
+    marked.extend_from_slice(&repeated(alloc, (b' ', 1), (b' ', 1_048_572))?)?;
+    assert_refused(&rt, alloc, "run", &marked, "PJST0005 at 1:1")
+}
+
+// Queries that `check` accepts and `run` is not built for.
+#[test]
+fn refuses_to_run(rt: HostRuntime) -> Result<(), Fail> {
+    let alloc = rt.alloc();
+    let cases: [&[u8]; 9] = [
+        b"1",
+        b"\n\n1",
+        b"(json-lines(\"a\"))",
+        b"count(json-lines(\"a\"))",
+        b"json-lines(\"a\", \"a\")",
+        b"json-lines()",
+        b"json-lines(1)",
+        b"json-line(\"a\")",
+        b"declare variable $x := 1; json-lines(\"a\")",
+    ];
+    for query in cases {
+        assert_accepted(&rt, alloc, query)?;
+        assert_refused(&rt, alloc, "run", query, "PJST0099 at 1:1")?;
+    }
+    Ok(())
+}
+
+// What a run raises, at the place of `json-lines`, and what it prints.
+#[test]
+fn reads_the_named_input(rt: HostRuntime) -> Result<(), Fail> {
+    let alloc = rt.alloc();
+    let cases: [(&[u8], Status, &str, &str); 7] = [
+        (b" (: c :) json-lines (  \"a\"  ) ", Status::Done, "1\n", ""),
+        (
+            b"\xef\xbb\xbfjson-lines(\"\\u0061\")",
+            Status::Done,
+            "1\n",
+            "",
+        ),
+        (
+            b"json-lines(\"none\")",
+            Status::Raised,
+            "",
+            "raised FODC0002 at 1:1\n",
+        ),
+        (
+            b"json-lines(\"\")",
+            Status::Raised,
+            "",
+            "raised FODC0002 at 1:1\n",
+        ),
+        (
+            b"json-lines(\"a b\")",
+            Status::Raised,
+            "",
+            "raised FODC0002 at 1:1\n",
+        ),
+        (
+            b"(: \xc3\xbc\n :)  json-lines(\"-a.b_C9\")",
+            Status::Raised,
+            "",
+            "raised FODC0002 at 2:6\n",
+        ),
+        (
+            b"\xef\xbb\xbf json-lines(\"\xc3\xbc\")",
+            Status::Raised,
+            "",
+            "raised FODC0002 at 1:2\n",
+        ),
+    ];
+    for (query, status, out, err) in cases {
+        let left = asked(&rt, alloc, "run", query, false)?;
+        assert_eq!(rt; left.err.bytes(), err.as_bytes(), "at {query:?}");
+        assert_eq!(rt; left.out.bytes(), out.as_bytes(), "at {query:?}");
+        assert_eq!(rt; left.status, status, "at {query:?}");
     }
     Ok(())
 }
@@ -223,8 +391,14 @@ fn refuses_and_misses(rt: HostRuntime) -> Result<(), Fail> {
 fn reads_the_words(rt: HostRuntime) -> Result<(), Fail> {
     let alloc = rt.alloc();
     let usage = (Status::Usage, USAGE);
-    let cases: [(&[&str], (Status, &str)); 9] = [
+    let cases: [(&[&str], (Status, &str)); 15] = [
         (&["run", "q"], (Status::Done, "")),
+        (&["check", "q"], (Status::Done, "")),
+        (&["check", "none"], (Status::NoQuery, "no query none\n")),
+        (&["check"], usage),
+        (&["check", "-q"], usage),
+        (&["check", "q", "q"], usage),
+        (&["checks", "q"], usage),
         (&["run", "none"], (Status::NoQuery, "no query none\n")),
         (
             &["run", "Z\u{fc}rich"],
@@ -315,5 +489,19 @@ fn tells_failed_writes(rt: HostRuntime) -> Result<(), Fail> {
         assert_eq!(rt; left.out.bytes(), out.as_bytes(), "at {input} in {room:?}");
         assert_eq!(rt; left.err.bytes(), err.as_bytes(), "at {input} in {room:?}");
     }
+    Ok(())
+}
+
+// What `check` writes may fail too.
+#[test]
+fn tells_failed_acceptance(rt: HostRuntime) -> Result<(), Fail> {
+    let alloc = rt.alloc();
+    let files = two_files(alloc, ONE_QUERY, b"")?;
+    assert!(rt; names_differ(&files));
+    let inputs = MemInputs::steady(alloc, files)?;
+    let left = run(&rt, alloc, &["check", "q"], inputs, (3, 100))?;
+    assert_eq!(rt; left.status, Status::WriteFault);
+    assert_eq!(rt; left.out.bytes(), b"acc".as_slice());
+    assert_eq!(rt; left.err.bytes(), b"write fault\n".as_slice());
     Ok(())
 }

@@ -1,31 +1,51 @@
-ghost use Rattle.std.specs.Prelude.{◌≡◌, ◌==◌, codes, option_map, slice_index};
-ghost use Rattle.std.specs.Str.{bytes_eq};
-ghost use Rattle.rumble_run.specs.Answer.{query_of};
+ghost use Rattle.std.specs.Prelude.{◌≡◌, option_map};
+ghost use Rattle.rumble_run.specs.Command.{task_of, begins_with_dash, command_of};
 
 use item_tree::Str;
 
-fn is_run(word: &Str) -> bool
-    ensures { result ≡ bytes_eq word.now (codes "run") }
+/// What a command does with its query.
+#[derive(Clone, Copy, Debug, PartialEq, Eq)]
+pub(crate) enum Task {
+    /// It is run, and the items of its value are printed.
+    Run,
+    /// It is only told whether it is accepted.
+    Check,
+}
+
+// The table of commands.
+fn task_named(name: &str) -> Option<Task>
+    ensures { result ≡ task_of name.now }
 {
-    word.as_str() == "run"
+    match name {
+        "run" => Some(Task::Run),
+        "check" => Some(Task::Check),
+        _ => None,
+    }
+}
+
+fn task_of(word: &Str) -> Option<Task>
+    ensures { result ≡ task_of word.now }
+{
+    task_named(word.as_str())
 }
 
 fn begins_with_dash(word: &Str) -> bool
-    ensures { result ≡ (slice_index word.now 0 == 45) }
+    ensures { result ≡ begins_with_dash word.now }
 {
     word.as_str().starts_with('-')
 }
 
-/// The name of the query, where the words are `run QUERY`.
-pub(crate) fn query_of<'a>(words: &'a [Str]) -> Option<&'a Str>
-    ensures { option_map (λ s. s.now) result ≡ query_of words.now }
+/// What the words ask for, with the name of the query.
+pub(crate) fn command_of<'a>(words: &'a [Str]) -> Option<(Task, &'a Str)>
+    ensures { option_map (λ command. (command.0, command.1.now)) result ≡ command_of words.now }
 {
-    let [command, query] = words else {
+    let [word, query] = words else {
         return None;
     };
-    if is_run(command) && !begins_with_dash(query) {
-        Some(query)
-    } else {
+    let task = task_of(word)?;
+    if begins_with_dash(query) {
         None
+    } else {
+        Some((task, query))
     }
 }

@@ -8,10 +8,10 @@ returns-in_default-clause-value g c = answer_usage _ _ _ (sym c.in_default.ensur
 pub returns-in_ok-tells_no_query-in-None-clause-value : goal.returns-in_ok-tells_no_query-in-None-clause-value
 returns-in_ok-tells_no_query-in-None-clause-value g c =
     let bytes = rw (c.as_str.ensures.value, c.in-None.is) at c.in_ok-read_named.ensures.bytes in
-    answer_missing _ _ _ _ (sym c.in-Some.ensures) bytes c.in_ok-tells_no_query-in-None.ensures
+    answer_missing _ _ _ _ _ (sym c.in-Some.ensures) bytes c.in_ok-tells_no_query-in-None.ensures
 
 pub returns-in_ok-ending-in-Some-2-clause-value : goal.returns-in_ok-ending-in-Some-2-clause-value
 returns-in_ok-ending-in-Some-2-clause-value g c =
     let bytes = rw c.as_str.ensures.value at c.in_ok-read_named.ensures.bytes in
-    answer_read _ _ _ c.deref.result.now (option_map (λ v. v.items) c.in_ok-read_named.field-0) _ _ (sym c.in-Some.ensures) bytes
+    answer_read _ _ _ _ c.deref.result.now (option_map (λ v. v.items) c.in_ok-read_named.field-0) _ _ (sym c.in-Some.ensures) bytes
     (ap (option_map (λ v. v.items)) c.in-Some-2.is ∙ ap (λ t. Some t) (sym c.deref.ensures.value)) c.in_ok-read_named.ensures.world c.in_ok-ending-in-Some-2.ensures.value

@@ -1,8 +1,20 @@
-use Rattle.rumble_run.proofs.Endings.{of_refusal, of_input_items}
+use Rattle.std.proofs.Common.{Err}
+use Rattle.rumble_run.specs.Front.{IsFront}
+use Rattle.rumble_run.specs.Seen.{plain_of}
+use Rattle.rumble_run.proofs.Endings.{of_refusal, query_refused, query_parsed}
 use Rattle.rumble_run.proofs.decide.of_query.Goals as goal
 
-pub returns-in_ok-ending-in-Ok-clause-shape : goal.returns-in_ok-ending-in-Ok-clause-shape
-returns-in_ok-ending-in-Ok-clause-shape g c = of_input_items _ _ _ c.in_ok-ending-in-Ok.ensures.value
+pub returns-in_ok-ending-in-Ok-clause-value : goal.returns-in_ok-ending-in-Ok-clause-value
+returns-in_ok-ending-in-Ok-clause-value g c =
+    query_parsed _ c.args.task c.args.query.now c.without_mark-text.result.now (plain_of c.in-Ok.tree) (g.I.Inputs.world c.args.inputs.now)
+    c.without_mark-text.ensures.rest c.in-Ok.ensures c.in_ok-ending-in-Ok.ensures.value
 
-pub returns-in_ok-tells_fault-in-Err-clause-shape : goal.returns-in_ok-tells_fault-in-Err-clause-shape
-returns-in_ok-tells_fault-in-Err-clause-shape g c = of_refusal _ c.args.query.now c.in-Err.fault c.in_ok-tells_fault-in-Err.ensures
+pub returns-in_ok-tells_refusal-in-Err-Refused-clause-value : goal.returns-in_ok-tells_refusal-in-Err-Refused-clause-value
+returns-in_ok-tells_refusal-in-Err-Refused-clause-value g c =
+    let front : IsFront c.args.query.now (Err c.in-Err-Refused.fault) = rw c.in-Err-Refused.field-0-is at c.in-Err-Refused.ensures in
+    query_refused _ c.args.task c.args.query.now c.without_mark-text.result.now c.in-Err-Refused.fault (g.I.Inputs.world c.args.inputs.now)
+    c.without_mark-text.ensures.rest front (rw c.in-Err-Refused.field-0-is at c.in_ok-tells_refusal-in-Err-Refused.ensures)
+
+pub returns-in_ok-tells_refusal-in-Err-Refused-clause-shape : goal.returns-in_ok-tells_refusal-in-Err-Refused-clause-shape
+returns-in_ok-tells_refusal-in-Err-Refused-clause-shape g c =
+    of_refusal _ c.without_mark-text.result.now c.in-Err-Refused.fault (rw c.in-Err-Refused.field-0-is at c.in_ok-tells_refusal-in-Err-Refused.ensures)

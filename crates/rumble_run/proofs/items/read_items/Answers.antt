@@ -5,7 +5,7 @@ use Rattle.rumble_run.proofs.ItemLists.{IsSoFar, at_first, past_item, at_fault, 
 use Rattle.rumble_run.proofs.items.read_items.Goals as goal
 
 pub reading-init : goal.reading-init
-reading-init c = at_first _ _ _ c.new-items.ensures.items c.without_mark.ensures
+reading-init c = at_first _ _ _ c.new-items.ensures.items c.without_mark.ensures.rest
 
 pub returns-in_err-item-clause-fault : goal.returns-in_err-item-clause-fault
 returns-in_err-item-clause-fault c =

@@ -1,0 +1,187 @@
+-- Every query has one front, and every command line one answer.
+use Rattle.std.proofs.Common.{◌≡◌, ◌⊎◌, inl, inr, ◌<◌, ◌≤◌, ℕ, zero, suc, List, ◌++◌, length, take, Bool, true, false, Option, None, Some, Ok, Err, refl, sym, ap, ◌∙◌, subst, arith, codes}
+use Rattle.std.specs.Prelude.{IfSome}
+use Rattle.std.specs.Str.{IsUtf8, IsValidUpTo, is_utf8, encode_utf8_all}
+use Rattle.std.proofs.Math.Nat.{eq-or-lt_of_le}
+use Rattle.std.proofs.lemmas.Bool.{cases_lt, cases_order}
+use Rattle.std.proofs.lemmas.List.{take_all}
+use Rattle.std.proofs.lemmas.Str.{IsUtf8-nil, IsUtf8-from_is_utf8, is_utf8-from_IsUtf8}
+use Rattle.item_tree.specs.declared.code.Code.{Code}
+use Rattle.item_tree.specs.declared.code.Code.TheVariants.{XPST0003, PJST0005}
+use Rattle.item_reader.specs.Lines.{without_mark}
+use Rattle.outside.specs.World.{World, file_of}
+use Rattle.query_lexer.specs.Lexes.{Tokens, Refused}
+use Rattle.query_lexer.specs.declared.token.Token.{Token}
+use Rattle.query_grammar.specs.Laws.{IsDecided}
+use Rattle.query_grammar.specs.Texts.{Derives, IsRefused}
+use Rattle.query_grammar.specs.Words.{AreWords}
+use Rattle.query_grammar.specs.declared.word.Word.{Word}
+use Rattle.query_lexer.proofs.PathLemmas as lexer
+use Rattle.query_grammar.proofs.Texts as grammar
+use Rattle.query_grammar.proofs.OneReading.{one_reading}
+use Rattle.rumble_run.specs.Answer.{Answer, IsAnswer, IsOfQuery, IsOfCommand, IsOfFile, OfAnswer, of_front, says, usage}
+use Rattle.rumble_run.specs.Command.{command_of}
+use Rattle.rumble_run.specs.Front.{Front, IsFront, IsFrontBehindMark, IsFrontOfText, IsFrontOfTokens, BreaksAt, refused_at, max_length}
+use Rattle.rumble_run.specs.Laws.{HasOneFront, HasOneAnswer}
+use Rattle.rumble_run.specs.declared.status.Status.TheVariants.{NoQuery}
+use Rattle.rumble_run.specs.declared.words.Task.{Task}
+use Rattle.rumble_run.proofs.Wording.{words_of_text}
+
+-- ---- where bytes stop being UTF-8
+
+-- the longest beginning of at most n bytes that is UTF-8, where no longer one is
+pub record IsLongest (bytes : List ℕ) (n : ℕ) : Type 0 where
+  pub place : ℕ
+  pub within : place ≤ n
+  pub before : IsUtf8 (take place bytes)
+  pub longest : (more : ℕ) → place < more → IsUtf8 (take more bytes) → ⊥
+
+-- a longer beginning than of n bytes is of n + 1, or longer
+longer : (bytes : List ℕ) (n : ℕ) → is_utf8 (take (suc n) bytes) ≡ false → ((more : ℕ) → suc n < more → IsUtf8 (take more bytes) → ⊥) → (more : ℕ) → n < more → IsUtf8 (take more bytes) → ⊥
+longer bytes n e never more lt u = sorted (eq-or-lt_of_le lt)
+  where
+    sorted : (suc n ≡ more) ⊎ (suc n < more) → ⊥
+    sorted (inl is) = let t : is_utf8 (take (suc n) bytes) ≡ true = is_utf8-from_IsUtf8 _ (subst (λ m. IsUtf8 (take m bytes)) (sym is) u) in cc
+    sorted (inr beyond) = never more beyond u
+
+longest_by : (bytes : List ℕ) (n : ℕ) → ((more : ℕ) → suc n < more → IsUtf8 (take more bytes) → ⊥) → (((more : ℕ) → n < more → IsUtf8 (take more bytes) → ⊥) → IsLongest bytes n)
+    → (b : Bool) → is_utf8 (take (suc n) bytes) ≡ b → IsLongest bytes (suc n)
+longest_by bytes n never below true e = record { place = suc n; within = omega arith; before = IsUtf8-from_is_utf8 _ e; longest = never }
+longest_by bytes n never below false e =
+    let l : IsLongest bytes n = below (longer bytes n e never) in
+    record { place = l.place; within = omega (arith, l.within); before = l.before; longest = l.longest }
+
+longest_up_to : (bytes : List ℕ) (n : ℕ) → ((more : ℕ) → n < more → IsUtf8 (take more bytes) → ⊥) → IsLongest bytes n
+longest_up_to bytes zero never = record { place = zero; within = omega arith; before = IsUtf8-nil; longest = never }
+longest_up_to bytes (suc n) never = longest_by bytes n never (λ h. longest_up_to bytes n h) (is_utf8 (take (suc n) bytes)) refl
+
+breaks : (bytes : List ℕ) → is_utf8 bytes ≡ false → (place : ℕ) × BreaksAt bytes place
+breaks bytes e = (l.place, record { short = short (eq-or-lt_of_le l.within); before = l.before; longest = l.longest })
+  where
+    whole : IsUtf8 bytes → ⊥
+    whole u = let t : is_utf8 bytes ≡ true = is_utf8-from_IsUtf8 bytes u in cc
+
+    l : IsLongest bytes (length bytes)
+    l = longest_up_to bytes (length bytes) (λ more lt u. whole (subst IsUtf8 (take_all more bytes (omega (arith, lt))) u))
+
+    short : (l.place ≡ length bytes) ⊎ (l.place < length bytes) → l.place < length bytes
+    short (inl is) = absurd (whole (subst IsUtf8 (take_all l.place bytes (omega (arith, is))) l.before))
+    short (inr lt) = lt
+
+-- ---- the front
+
+front_of_text : (text : List ℕ) → IsUtf8 text → (front : Front) × IsFrontOfText text front
+front_of_text text u = by (lexer.either text)
+  where
+    by_tree : (tokens : List Token) (words : List Word) → Tokens text tokens → AreWords text tokens words → IsDecided words (length text) → (front : Front) × IsFrontOfText text front
+    by_tree tokens words t ws (inl (tree, d)) = (Ok tree, inr (tokens, t, (words, ws, d)))
+    by_tree tokens words t ws (inr (code, place, r)) = (refused_at code place, inr (tokens, t, (words, ws, r)))
+
+    by : ((tokens : List Token) × Tokens text tokens) ⊎ ((code : Code) × (place : ℕ) × Refused text code place) → (front : Front) × IsFrontOfText text front
+    by (inl (tokens, t)) = let ws : (words : List Word) × AreWords text tokens words = words_of_text text tokens u t in by_tree tokens ws.0 t ws.1 (grammar.decided ws.0 (length text))
+    by (inr (code, place, r)) = (refused_at code place, inl (code, place, r, refl))
+
+front_behind_mark : (bytes : List ℕ) → (front : Front) × IsFrontBehindMark bytes front
+front_behind_mark bytes = by (is_utf8 bytes) refl
+  where
+    by : (b : Bool) → is_utf8 bytes ≡ b → (front : Front) × IsFrontBehindMark bytes front
+    by true e = let f : (front : Front) × IsFrontOfText bytes front = front_of_text bytes (IsUtf8-from_is_utf8 bytes e) in (f.0, inr (IsUtf8-from_is_utf8 bytes e, f.1))
+    by false e = let p : (place : ℕ) × BreaksAt bytes place = breaks bytes e in (refused_at XPST0003 p.0, inl (p.0, p.1, refl))
+
+front_is : (query : List ℕ) → (front : Front) × IsFront query front
+front_is query = by (cases_lt max_length (length query))
+  where
+    by : (max_length < length query) ⊎ (length query ≤ max_length) → (front : Front) × IsFront query front
+    by (inl l) = (refused_at PJST0005 0, inl (l, refl))
+    by (inr l) = let f : (front : Front) × IsFrontBehindMark (without_mark query) front = front_behind_mark (without_mark query) in (f.0, inr (l, f.1))
+
+-- what std says of bytes that are no UTF-8
+pub broken : (query bytes : List ℕ) (place : ℕ) → length query ≤ max_length → bytes ≡ without_mark query → IsValidUpTo bytes place → IsFront query (refused_at XPST0003 place)
+broken query bytes place short is v =
+    let b : BreaksAt bytes place = record { short = v.short; before = v.front; longest = v.longest } in
+    inr (short, inl (place, subst (λ bs. BreaksAt bs place) is b, refl))
+
+-- ---- there is no other
+
+one_of_tokens : (text : List ℕ) (tokens : List Token) (front other : Front) → IsFrontOfTokens text tokens front → IsFrontOfTokens text tokens other → front ≡ other
+one_of_tokens text tokens (Ok tree) (Ok other) (words, are, d) (others, were, e) =
+    ap (λ t. Ok t) (grammar.one_tree words tree other d (subst (λ ws. Derives ws other) (one_reading text tokens others words were are) e))
+one_of_tokens text tokens (Ok tree) (Err other) (words, are, d) (others, were, r) =
+    absurd ((subst (λ ws. IsRefused ws (length text) other.code other.place) (one_reading text tokens others words were are) r).derives_none tree d)
+one_of_tokens text tokens (Err fault) (Ok other) (words, are, r) (others, were, d) =
+    absurd (r.derives_none other (subst (λ ws. Derives ws other) (one_reading text tokens others words were are) d))
+one_of_tokens text tokens (Err fault) (Err other) (words, are, r) (others, were, q) =
+    let s = grammar.one_refusal words (length text) fault.code other.code fault.place other.place r (subst (λ ws. IsRefused ws (length text) other.code other.place) (one_reading text tokens others words were are) q) in
+    ap (λ code. refused_at code fault.place) s.0 ∙ ap (refused_at other.code) s.1
+
+one_of_text : (text : List ℕ) (front other : Front) → IsFrontOfText text front → IsFrontOfText text other → front ≡ other
+one_of_text text front other (inl (c, p, r, e)) (inl (d, q, s, f)) =
+    let same = lexer.one_refusal text c d p q r s in
+    e ∙ ap (λ x. refused_at x p) same.0 ∙ ap (refused_at d) same.1 ∙ sym f
+one_of_text text front other (inl (c, p, r, e)) (inr (tokens, t, is)) = absurd (lexer.not_both text tokens c p t r)
+one_of_text text front other (inr (tokens, t, is)) (inl (c, p, r, e)) = absurd (lexer.not_both text tokens c p t r)
+one_of_text text front other (inr (tokens, t, is)) (inr (others, u, it)) =
+    one_of_tokens text tokens front other is (subst (λ ts. IsFrontOfTokens text ts other) (lexer.one_tokens text others tokens u t) it)
+
+not_utf8 : (bytes : List ℕ) (place : ℕ) → BreaksAt bytes place → IsUtf8 bytes → ⊥
+not_utf8 bytes place b u = b.longest (length bytes) b.short (subst IsUtf8 (sym (take_all (length bytes) bytes (omega arith))) u)
+
+one_place : (bytes : List ℕ) (p q : ℕ) → BreaksAt bytes p → BreaksAt bytes q → p ≡ q
+one_place bytes p q b c = by (cases_order p q)
+  where
+    by : (p ≡ q) ⊎ ((p < q) ⊎ (q < p)) → p ≡ q
+    by (inl is) = is
+    by (inr (inl lt)) = absurd (b.longest q lt c.before)
+    by (inr (inr lt)) = absurd (c.longest p lt b.before)
+
+one_behind_mark : (bytes : List ℕ) (front other : Front) → IsFrontBehindMark bytes front → IsFrontBehindMark bytes other → front ≡ other
+one_behind_mark bytes front other (inl (p, b, e)) (inl (q, c, f)) = e ∙ ap (refused_at XPST0003) (one_place bytes p q b c) ∙ sym f
+one_behind_mark bytes front other (inl (p, b, e)) (inr (u, t)) = absurd (not_utf8 bytes p b u)
+one_behind_mark bytes front other (inr (u, t)) (inl (p, b, e)) = absurd (not_utf8 bytes p b u)
+one_behind_mark bytes front other (inr (u, t)) (inr (v, s)) = one_of_text bytes front other t s
+
+only_front : (query : List ℕ) (front other : Front) → IsFront query front → IsFront query other → front ≡ other
+only_front query front other (inl (l, e)) (inl (m, f)) = e ∙ sym f
+only_front query front other (inl (l, e)) (inr (m, f)) = absurd (omega (arith, l, m))
+only_front query front other (inr (m, f)) (inl (l, e)) = absurd (omega (arith, l, m))
+only_front query front other (inr (l, e)) (inr (m, f)) = one_behind_mark (without_mark query) front other e f
+
+pub one_front : (query : List ℕ) → HasOneFront query
+one_front query = record { some = front_is query; only = only_front query }
+
+-- ---- the answer
+
+answer_of_query : (task : Task) (world : World) (query : List ℕ) → (answer : Answer) × IsOfQuery task world query answer
+answer_of_query task world query = let f : (front : Front) × IsFront query front = front_is query in (of_front task (without_mark query) world f.0, (f.0, f.1, refl))
+
+answer_of_file : (task : Task) (name : List ℕ) (world : World) (file : Option (List ℕ)) → (answer : Answer) × IsOfFile task name world file answer
+answer_of_file task name world None = (says NoQuery (codes "no query " ++ encode_utf8_all name), refl)
+answer_of_file task name world (Some query) = answer_of_query task world query
+
+answer_of_command : (world : World) (command : Option (Task × List ℕ)) → (answer : Answer) × IsOfCommand world command answer
+answer_of_command world None = (usage, refl)
+answer_of_command world (Some command) = answer_of_file command.0 command.1 world (file_of world command.1)
+
+only_of_file : (task : Task) (name : List ℕ) (world : World) (file : Option (List ℕ)) (a b : Answer) → IsOfFile task name world file a → IsOfFile task name world file b → a ≡ b
+only_of_file task name world None a b e f = e ∙ sym f
+only_of_file task name world (Some query) a b (front, is, e) (other, it, f) = e ∙ ap (of_front task (without_mark query) world) (only_front query front other is it) ∙ sym f
+
+only_of_command : (world : World) (command : Option (Task × List ℕ)) (a b : Answer) → IsOfCommand world command a → IsOfCommand world command b → a ≡ b
+only_of_command world None a b e f = e ∙ sym f
+only_of_command world (Some command) a b is it = only_of_file command.0 command.1 world (file_of world command.1) a b is it
+
+pub one_answer : (words : List (List ℕ)) (world : World) → HasOneAnswer words world
+unfolding IsAnswer
+one_answer words world = record { some = answer_of_command world (command_of words); only = only_of_command world (command_of words) }
+
+-- ---- what holds of the answer
+
+-- of an ending that is the answer, what holds of it
+pub told : (world : Option World) (words : List (List ℕ)) (a : Answer) (Holds : Answer → Type 0) → IfSome world (λ w. IsAnswer words w a) → Holds a → OfAnswer world words Holds
+told None words a Holds is h = tt
+told (Some w) words a Holds is h = λ b it. subst Holds ((one_answer words w).only a b is it) h
+
+-- what holds of every answer
+pub untold : (world : Option World) (words : List (List ℕ)) (Holds : Answer → Type 0) → ((a : Answer) → Holds a) → OfAnswer world words Holds
+untold None words Holds h = tt
+untold (Some w) words Holds h = λ b it. h b

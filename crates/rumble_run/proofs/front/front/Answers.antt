@@ -1,0 +1,11 @@
+use Rattle.std.proofs.Common.{sym, subst, Err}
+use Rattle.std.specs.Prelude.{IfSome}
+use Rattle.rumble_run.specs.Front.{IsFront}
+use Rattle.rumble_run.specs.Seen.{front_of}
+use Rattle.rumble_run.proofs.Fronts.{broken}
+use Rattle.rumble_run.proofs.front.front.Goals as goal
+
+pub returns-in-Err : goal.returns-in-Err
+returns-in-Err c =
+    subst (λ r. IfSome (front_of (Err r)) (IsFront c.args.query.now)) (sym c.refused-in-Err.ensures)
+    (subst (λ n. IsFront c.args.query.now (Err (record { code = _; place = n }))) (sym c.valid_up_to.ensures) (broken c.args.query.now c.without_mark.result.now _ c.if-query-gt-MAX_LENGTH.false c.without_mark.ensures.rest c.in-Err.ensures.cases.1))

@@ -1,0 +1,16 @@
+use Rattle.rumble_run.specs.Seen.{answer_of}
+use Rattle.rumble_run.proofs.Endings.{ends_status, ends_complete}
+use Rattle.rumble_run.proofs.Fronts.{told}
+use Rattle.rumble_run.proofs.rumble.Goals as goal
+
+pub returns-in-Ok-clause-status : goal.returns-in-Ok-clause-status
+returns-in-Ok-clause-status g c = told (g.I.Inputs.world c.args.inputs.now) c.args.words.now (answer_of c.in-Ok.ending) _ c.in-Ok.ensures.value (ends_status (answer_of c.in-Ok.ending) _ _ _ c.finish.ensures.status)
+
+pub returns-in-Ok-clause-output : goal.returns-in-Ok-clause-output
+returns-in-Ok-clause-output g c = told (g.I.Inputs.world c.args.inputs.now) c.args.words.now (answer_of c.in-Ok.ending) _ c.in-Ok.ensures.value c.finish.ensures.output
+
+pub returns-in-Ok-clause-text : goal.returns-in-Ok-clause-text
+returns-in-Ok-clause-text g c = told (g.I.Inputs.world c.args.inputs.now) c.args.words.now (answer_of c.in-Ok.ending) _ c.in-Ok.ensures.value c.finish.ensures.text
+
+pub returns-in-Ok-clause-completes : goal.returns-in-Ok-clause-completes
+returns-in-Ok-clause-completes g c = λ read written. told (g.I.Inputs.world c.args.inputs.now) c.args.words.now (answer_of c.in-Ok.ending) _ c.in-Ok.ensures.value (ends_complete (answer_of c.in-Ok.ending) _ _ _ written c.finish.ensures.status)

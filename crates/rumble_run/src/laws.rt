@@ -1,0 +1,16 @@
+//! Laws of what a command line comes to. Each holds of all queries: a call brings it to a proof, and
+//! does nothing when it runs.
+
+ghost use Rattle.std.specs.Prelude.{ℕ, List};
+ghost use Rattle.outside.specs.World.{World};
+ghost use Rattle.rumble_run.specs.Laws.{HasOneFront, HasOneAnswer};
+
+/// Every query has a front, a tree or a refusal, and only one.
+pub fn one_front()
+    ensures { (query : List ℕ) → HasOneFront query }
+{}
+
+/// Every command line has an answer over every world, and only one.
+pub fn one_answer()
+    ensures { (words : List (List ℕ)) → (world : World) → HasOneAnswer words world }
+{}
