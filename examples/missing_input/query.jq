@@ -1,0 +1,1 @@
+(: a (: b :) c :) json-lines( "a" )
