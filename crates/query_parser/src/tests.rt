@@ -39,7 +39,7 @@ fn nested(alloc: Global, opens: u8, text: &str, closes: u8) -> Result<String, Fa
 }
 
 #[test]
-fn reads_queries_and_refuses_others(rt: HostRuntime) -> Result<(), Fail> {
+fn reads_values_and_constructors(rt: HostRuntime) -> Result<(), Fail> {
     for (text, want) in [
         ("1", "query"),
         ("1.5", "query"),
@@ -63,6 +63,16 @@ fn reads_queries_and_refuses_others(rt: HostRuntime) -> Result<(), Fail> {
             "{for : 1, let : 2, where : 3, return : 4, declare : 5, function : 6, if : 7, empty-sequence : 8, true : 9, not : 10}",
             "query",
         ),
+    ] {
+        let shown = shown(rt.alloc(), text)?;
+        assert_eq!(rt; shown.as_str(), want, "at {text}");
+    }
+    Ok(())
+}
+
+#[test]
+fn reads_calls_and_steps(rt: HostRuntime) -> Result<(), Fail> {
+    for (text, want) in [
         ("f()", "query"),
         ("f(1, 2)", "query"),
         ("count(json-lines(\"a\"))", "query"),
@@ -80,6 +90,16 @@ fn reads_queries_and_refuses_others(rt: HostRuntime) -> Result<(), Fail> {
         ("$x[ [1] ]", "query"),
         ("$x[$$.a eq 1][].b[[2]]", "query"),
         ("$x ! $$ ! 1", "query"),
+    ] {
+        let shown = shown(rt.alloc(), text)?;
+        assert_eq!(rt; shown.as_str(), want, "at {text}");
+    }
+    Ok(())
+}
+
+#[test]
+fn reads_operators(rt: HostRuntime) -> Result<(), Fail> {
+    for (text, want) in [
         ("- + - 1", "query"),
         ("1 cast as integer?", "query"),
         ("1 cast as integer + 1", "query"),
@@ -102,6 +122,16 @@ fn reads_queries_and_refuses_others(rt: HostRuntime) -> Result<(), Fail> {
         ("not(1)", "query"),
         ("1 or 2 and not 3", "query"),
         ("1, 2, 3", "query"),
+    ] {
+        let shown = shown(rt.alloc(), text)?;
+        assert_eq!(rt; shown.as_str(), want, "at {text}");
+    }
+    Ok(())
+}
+
+#[test]
+fn reads_clauses_and_declarations(rt: HostRuntime) -> Result<(), Fail> {
+    for (text, want) in [
         ("for $x in 1 return $x", "query"),
         (
             "for $x as integer? allowing empty at $i in 1, $y in 2 let $z := 3, $u as item* := 4 where 4 group by $k, $l := 5 order by $x descending empty greatest, $y ascending empty least, $z count $c for $v in 6 return 7",
@@ -134,6 +164,16 @@ fn reads_queries_and_refuses_others(rt: HostRuntime) -> Result<(), Fail> {
             "declare variable $x as integer := 1; declare function f($a, $b as item*) as item { $a, 2 }; declare function g() { 1 }; f(1, 2)",
             "query",
         ),
+    ] {
+        let shown = shown(rt.alloc(), text)?;
+        assert_eq!(rt; shown.as_str(), want, "at {text}");
+    }
+    Ok(())
+}
+
+#[test]
+fn refuses_operators_out_of_place(rt: HostRuntime) -> Result<(), Fail> {
+    for (text, want) in [
         ("1 instance of integer + 1", "XPST0003 24"),
         ("1 instance of empty-sequence + 1", "XPST0003 31"),
         ("1 treat as item * 2", "XPST0003 18"),
@@ -147,6 +187,16 @@ fn reads_queries_and_refuses_others(rt: HostRuntime) -> Result<(), Fail> {
         ("declare variable $x := 1", "XPST0003 24"),
         ("declare function f($a,) { 1 }; 2", "XPST0003 22"),
         ("declare function if { 1 }; 2", "XPST0003 20"),
+    ] {
+        let shown = shown(rt.alloc(), text)?;
+        assert_eq!(rt; shown.as_str(), want, "at {text}");
+    }
+    Ok(())
+}
+
+#[test]
+fn refuses_forms_left_out_of_the_language(rt: HostRuntime) -> Result<(), Fail> {
+    for (text, want) in [
         ("1e0", "PJST0001 0"),
         ("foo#1", "PJST0001 3"),
         ("foo(?)", "PJST0001 4"),
@@ -162,6 +212,16 @@ fn reads_queries_and_refuses_others(rt: HostRuntime) -> Result<(), Fail> {
         ("{function 1", "XPST0003 10"),
         ("{for $x", "XPST0003 7"),
         ("function 1", "PJST0001 0"),
+    ] {
+        let shown = shown(rt.alloc(), text)?;
+        assert_eq!(rt; shown.as_str(), want, "at {text}");
+    }
+    Ok(())
+}
+
+#[test]
+fn refuses_texts_that_end_early(rt: HostRuntime) -> Result<(), Fail> {
+    for (text, want) in [
         ("", "XPST0003 0"),
         ("1 +", "XPST0003 3"),
         ("1 + (: c :) ", "XPST0003 12"),
@@ -175,6 +235,16 @@ fn reads_queries_and_refuses_others(rt: HostRuntime) -> Result<(), Fail> {
         ("$x[[", "XPST0003 4"),
         ("$x[[1]", "XPST0003 6"),
         ("$x.", "XPST0003 3"),
+    ] {
+        let shown = shown(rt.alloc(), text)?;
+        assert_eq!(rt; shown.as_str(), want, "at {text}");
+    }
+    Ok(())
+}
+
+#[test]
+fn refuses_forms_that_end_early(rt: HostRuntime) -> Result<(), Fail> {
+    for (text, want) in [
         ("if (1) then 2", "XPST0003 13"),
         ("try { 1 }", "XPST0003 9"),
         ("typeswitch (1) case integer return 1", "XPST0003 36"),
@@ -185,6 +255,16 @@ fn reads_queries_and_refuses_others(rt: HostRuntime) -> Result<(), Fail> {
         ("1 instance of", "XPST0003 13"),
         ("if(1)", "XPST0003 5"),
         ("$x[[1],", "XPST0003 6"),
+    ] {
+        let shown = shown(rt.alloc(), text)?;
+        assert_eq!(rt; shown.as_str(), want, "at {text}");
+    }
+    Ok(())
+}
+
+#[test]
+fn refuses_tokens_out_of_place(rt: HostRuntime) -> Result<(), Fail> {
+    for (text, want) in [
         (")", "XPST0003 0"),
         ("1 )", "XPST0003 2"),
         ("1 2", "XPST0003 2"),
@@ -195,6 +275,16 @@ fn reads_queries_and_refuses_others(rt: HostRuntime) -> Result<(), Fail> {
         ("{\"a\" : 1,}", "XPST0003 9"),
         ("[1,]", "XPST0003 3"),
         ("$x .1", "XPST0003 3"),
+    ] {
+        let shown = shown(rt.alloc(), text)?;
+        assert_eq!(rt; shown.as_str(), want, "at {text}");
+    }
+    Ok(())
+}
+
+#[test]
+fn refuses_words_out_of_place(rt: HostRuntime) -> Result<(), Fail> {
+    for (text, want) in [
         ("try { } catch * { 1 }", "XPST0003 6"),
         ("switch (1) default return 2", "XPST0003 11"),
         ("some(1)", "XPST0003 4"),
