@@ -1,21 +1,23 @@
 -- What an ending is, by the parts that it was made of.
 use Rattle.std.proofs.Common.{◌≡◌, ℕ, List, ◌++◌, Option, None, Some, Result, Ok, Err, refl, sym, ap, ◌∙◌, subst, codes, inr, arith}
-use Rattle.std.specs.Prelude.{IfSome}
+use Rattle.std.specs.Prelude.{IfSome, IfOk}
 use Rattle.std.specs.Str.{encode_utf8_all}
 use Rattle.item_tree.specs.Datum.{Datum}
 use Rattle.item_tree.specs.declared.code.Code.TheVariants.{PJST0099}
 use Rattle.item_tree.specs.declared.fault.Fault.{Fault}
 use Rattle.item_reader.specs.Lines.{without_mark}
 use Rattle.outside.specs.World.{World, file_of}
-use Rattle.query_grammar.specs.Nodes.{Module}
+use Rattle.query_tree.specs.Compiled.{BoundTrees}
 use Rattle.rumble_run.specs.Answer.{Answer, IsAnswer, IsOfQuery, IsOfCommand, IsOfFile, of_tree, of_run, of_result, input_items, says, refused, accepted, usage}
 use Rattle.rumble_run.specs.Built.{input_of}
 use Rattle.rumble_run.specs.Command.{command_of}
 use Rattle.rumble_run.specs.Front.{IsFront}
 use Rattle.rumble_run.specs.Place.{line_of, column_of}
 use Rattle.rumble_run.specs.Ends.{StatusBy, Completes, Calm}
-use Rattle.rumble_run.specs.Seen.{IsShaped, IsOfStatus, EndsAs}
+use Rattle.rumble_run.specs.Seen.{IsShaped, IsOfStatus, EndsAs, answer_of}
+use Rattle.rumble_run.specs.declared.ending.Ending.{Ending}
 use Rattle.rumble_run.specs.declared.status.Status.{Status}
+use Rattle.rumble_run.specs.declared.status.Stop.{Stop}
 use Rattle.rumble_run.specs.declared.status.Status.TheVariants.{Done, Raised, Refused, Usage, ReadFault, WriteFault, NoMemory, NoQuery}
 use Rattle.rumble_run.specs.declared.words.Task.{Task}
 use Rattle.rumble_run.specs.declared.words.Task.TheVariants.{Run, Check}
@@ -41,16 +43,16 @@ of_input_items a text r e = subst IsOf (sym e) (of_items text r)
 
 -- ---- the answer to a tree
 
-pub run_unbuilt : (a : Answer) (text : List ℕ) (tree : Module) (world : Option World) → None ≡ input_of tree → a ≡ refused text (record { code = PJST0099; place = 0 }) → IfSome world (λ w. a ≡ of_tree Run text w tree)
+pub run_unbuilt : (a : Answer) (text : List ℕ) (tree : BoundTrees) (world : Option World) → None ≡ input_of tree → a ≡ refused text (record { code = PJST0099; place = 0 }) → IfSome world (λ w. a ≡ of_tree Run text w tree)
 run_unbuilt a text tree None is e = tt
 run_unbuilt a text tree (Some w) is e = e ∙ ap (of_run text w) is
 
-pub run_read : (a : Answer) (text : List ℕ) (tree : Module) (name : List ℕ) (place : ℕ) (input : Option (List ℕ)) (world : Option World) → Some (name, place) ≡ input_of tree
+pub run_read : (a : Answer) (text : List ℕ) (tree : BoundTrees) (name : List ℕ) (place : ℕ) (input : Option (List ℕ)) (world : Option World) → Some (name, place) ≡ input_of tree
     → IfSome world (λ w. input ≡ file_of w name) → a ≡ of_result text (input_items place input) → IfSome world (λ w. a ≡ of_tree Run text w tree)
 run_read a text tree name place input None is i e = tt
 run_read a text tree name place input (Some w) is i e = e ∙ ap (λ o. of_result text (input_items place o)) i ∙ ap (of_run text w) is
 
-pub check_accepts : (a : Answer) (text : List ℕ) (tree : Module) (world : Option World) → a ≡ accepted → IfSome world (λ w. a ≡ of_tree Check text w tree)
+pub check_accepts : (a : Answer) (text : List ℕ) (tree : BoundTrees) (world : Option World) → a ≡ accepted → IfSome world (λ w. a ≡ of_tree Check text w tree)
 check_accepts a text tree None e = tt
 check_accepts a text tree (Some w) e = e
 
@@ -61,10 +63,15 @@ pub query_refused : (a : Answer) (task : Task) (query text : List ℕ) (fault : 
 query_refused a task query text fault None behind front e = tt
 query_refused a task query text fault (Some w) behind front e = (Err fault, front, e ∙ ap (λ t. refused t fault) behind)
 
-pub query_parsed : (a : Answer) (task : Task) (query text : List ℕ) (tree : Module) (world : Option World) → text ≡ without_mark query → IsFront query (Ok tree)
+query_compiled : (a : Answer) (task : Task) (query text : List ℕ) (tree : BoundTrees) (world : Option World) → text ≡ without_mark query → IsFront query (Ok tree)
     → IfSome world (λ w. a ≡ of_tree task text w tree) → IfSome world (λ w. IsOfQuery task w query a)
-query_parsed a task query text tree None behind front e = tt
-query_parsed a task query text tree (Some w) behind front e = (Ok tree, front, e ∙ ap (λ t. of_tree task t w tree) behind)
+query_compiled a task query text tree None behind front e = tt
+query_compiled a task query text tree (Some w) behind front e = (Ok tree, front, e ∙ ap (λ t. of_tree task t w tree) behind)
+
+pub query_ended : (ending : Result Ending Stop) (task : Task) (query text : List ℕ) (tree : BoundTrees) (world : Option World) → text ≡ without_mark query → IsFront query (Ok tree)
+    → IfOk ending (λ e. IfSome world (λ w. answer_of e ≡ of_tree task text w tree)) → IfOk ending (λ e. IfSome world (λ w. IsOfQuery task w query (answer_of e)))
+query_ended (Ok e) task query text tree world behind front h = query_compiled (answer_of e) task query text tree world behind front h
+query_ended (Err stop) task query text tree world behind front h = tt
 
 -- ---- the answer to the words
 

@@ -1,5 +1,5 @@
 -- Every query has one front, and every command line one answer.
-use Rattle.std.proofs.Common.{◌≡◌, ◌⊎◌, inl, inr, ◌<◌, ◌≤◌, ℕ, zero, suc, List, ◌++◌, length, take, Bool, true, false, Option, None, Some, Ok, Err, refl, sym, ap, ◌∙◌, subst, arith, codes}
+use Rattle.std.proofs.Common.{◌≡◌, ◌⊎◌, inl, inr, ◌<◌, ◌≤◌, ℕ, zero, suc, List, ◌++◌, length, take, Bool, true, false, Option, None, Some, Ok, refl, sym, ap, ◌∙◌, subst, arith, codes}
 use Rattle.std.specs.Prelude.{IfSome}
 use Rattle.std.specs.Str.{IsUtf8, IsValidUpTo, is_utf8, encode_utf8_all}
 use Rattle.std.proofs.Math.Nat.{eq-or-lt_of_le}
@@ -13,15 +13,22 @@ use Rattle.outside.specs.World.{World, file_of}
 use Rattle.query_lexer.specs.Lexes.{Tokens, Refused}
 use Rattle.query_lexer.specs.declared.token.Token.{Token}
 use Rattle.query_grammar.specs.Laws.{IsDecided}
+use Rattle.query_tree.specs.Compiled.{CompiledTree, bound_trees}
+use Rattle.query_grammar.specs.Nodes.{Module}
 use Rattle.query_grammar.specs.Texts.{Derives, IsRefused}
 use Rattle.query_grammar.specs.Words.{AreWords}
 use Rattle.query_grammar.specs.declared.word.Word.{Word}
 use Rattle.query_lexer.proofs.PathLemmas as lexer
 use Rattle.query_grammar.proofs.Texts as grammar
 use Rattle.query_grammar.proofs.OneReading.{one_reading}
+use Rattle.query_parser.specs.Queries.{IsQuery}
+use Rattle.static_rules.specs.Outcomes.{CompilesTo}
+use Rattle.static_rules.specs.Refusals.{refusal}
+use Rattle.static_rules.specs.Rules.{code_of}
+use Rattle.static_rules.specs.declared.rules.Refusal.{Refusal}
 use Rattle.rumble_run.specs.Answer.{Answer, IsAnswer, IsOfQuery, IsOfCommand, IsOfFile, OfAnswer, of_front, says, usage}
 use Rattle.rumble_run.specs.Command.{command_of}
-use Rattle.rumble_run.specs.Front.{Front, IsFront, IsFrontBehindMark, IsFrontOfText, IsFrontOfTokens, BreaksAt, refused_at, max_length}
+use Rattle.rumble_run.specs.Front.{Front, IsFront, IsFrontBehindMark, IsFrontOfText, IsFrontOfTokens, BreaksAt, refused_at, max_length, front_by, static_front}
 use Rattle.rumble_run.specs.Laws.{HasOneFront, HasOneAnswer}
 use Rattle.rumble_run.specs.declared.status.Status.TheVariants.{NoQuery}
 use Rattle.rumble_run.specs.declared.words.Task.{Task}
@@ -74,8 +81,8 @@ front_of_text : (text : List ℕ) → IsUtf8 text → (front : Front) × IsFront
 front_of_text text u = by (lexer.either text)
   where
     by_tree : (tokens : List Token) (words : List Word) → Tokens text tokens → AreWords text tokens words → IsDecided words (length text) → (front : Front) × IsFrontOfText text front
-    by_tree tokens words t ws (inl (tree, d)) = (Ok tree, inr (tokens, t, (words, ws, d)))
-    by_tree tokens words t ws (inr (code, place, r)) = (refused_at code place, inr (tokens, t, (words, ws, r)))
+    by_tree tokens words t ws (inl (tree, d)) = (static_front tree, inr (tokens, t, inr (tree, (words, ws, d), refl)))
+    by_tree tokens words t ws (inr (code, place, r)) = (refused_at code place, inr (tokens, t, inl (code, place, (words, ws, r), refl)))
 
     by : ((tokens : List Token) × Tokens text tokens) ⊎ ((code : Code) × (place : ℕ) × Refused text code place) → (front : Front) × IsFrontOfText text front
     by (inl (tokens, t)) = let ws : (words : List Word) × AreWords text tokens words = words_of_text text tokens u t in by_tree tokens ws.0 t ws.1 (grammar.decided ws.0 (length text))
@@ -95,6 +102,27 @@ front_is query = by (cases_lt max_length (length query))
     by (inl l) = (refused_at PJST0005 0, inl (l, refl))
     by (inr l) = let f : (front : Front) × IsFrontBehindMark (without_mark query) front = front_behind_mark (without_mark query) in (f.0, inr (l, f.1))
 
+-- what compiling a query says
+pub compiles : (query : Module) (c : CompiledTree) → CompilesTo query c → Ok (bound_trees c.tree) ≡ static_front query
+unfolding static_front
+compiles query c h = ap (λ t. Ok t) h.tree ∙ sym (ap (front_by query) h.accepted)
+
+pub refuses : (query : Module) (code : Code) (place : ℕ) → ((r : Refusal) × (refusal query ≡ Some r) × (code ≡ code_of r.rule) × (place ≡ r.place)) → refused_at code place ≡ static_front query
+unfolding static_front
+refuses query code place (r, is, same, there) = ap (λ c. refused_at c place) same ∙ ap (refused_at (code_of r.rule)) there ∙ sym (ap (front_by query) is)
+
+-- what a query comes to, its text does
+pub derived : (text : List ℕ) (tokens : List Token) (query : Module) (front : Option Front) → Tokens text tokens → IsQuery text tokens query
+    → IfSome front (λ f. f ≡ static_front query) → IfSome front (λ f. IsFrontOfText text f)
+derived text tokens query None t q h = tt
+derived text tokens query (Some f) t q h = inr (tokens, t, inr (query, q, h))
+
+-- what a text comes to, the query that it stands in does
+pub behind : (query bytes text : List ℕ) (front : Option Front) → length query ≤ max_length → bytes ≡ without_mark query → (text ≡ bytes) × IsUtf8 bytes
+    → IfSome front (λ f. IsFrontOfText text f) → IfSome front (λ f. IsFront query f)
+behind query bytes text None short is (same, u) h = tt
+behind query bytes text (Some f) short is (same, u) h = inr (short, inr (subst IsUtf8 is u, subst (λ t. IsFrontOfText t f) (same ∙ is) h))
+
 -- what std says of bytes that are no UTF-8
 pub broken : (query bytes : List ℕ) (place : ℕ) → length query ≤ max_length → bytes ≡ without_mark query → IsValidUpTo bytes place → IsFront query (refused_at XPST0003 place)
 broken query bytes place short is v =
@@ -104,15 +132,15 @@ broken query bytes place short is v =
 -- ---- there is no other
 
 one_of_tokens : (text : List ℕ) (tokens : List Token) (front other : Front) → IsFrontOfTokens text tokens front → IsFrontOfTokens text tokens other → front ≡ other
-one_of_tokens text tokens (Ok tree) (Ok other) (words, are, d) (others, were, e) =
-    ap (λ t. Ok t) (grammar.one_tree words tree other d (subst (λ ws. Derives ws other) (one_reading text tokens others words were are) e))
-one_of_tokens text tokens (Ok tree) (Err other) (words, are, d) (others, were, r) =
-    absurd ((subst (λ ws. IsRefused ws (length text) other.code other.place) (one_reading text tokens others words were are) r).derives_none tree d)
-one_of_tokens text tokens (Err fault) (Ok other) (words, are, r) (others, were, d) =
-    absurd (r.derives_none other (subst (λ ws. Derives ws other) (one_reading text tokens others words were are) d))
-one_of_tokens text tokens (Err fault) (Err other) (words, are, r) (others, were, q) =
-    let s = grammar.one_refusal words (length text) fault.code other.code fault.place other.place r (subst (λ ws. IsRefused ws (length text) other.code other.place) (one_reading text tokens others words were are) q) in
-    ap (λ code. refused_at code fault.place) s.0 ∙ ap (refused_at other.code) s.1
+one_of_tokens text tokens front other (inr (tree, (words, are, d), e)) (inr (second, (others, were, g), f)) =
+    e ∙ ap static_front (grammar.one_tree words tree second d (subst (λ ws. Derives ws second) (one_reading text tokens others words were are) g)) ∙ sym f
+one_of_tokens text tokens front other (inr (tree, (words, are, d), e)) (inl (code, place, (others, were, r), f)) =
+    absurd ((subst (λ ws. IsRefused ws (length text) code place) (one_reading text tokens others words were are) r).derives_none tree d)
+one_of_tokens text tokens front other (inl (code, place, (words, are, r), e)) (inr (tree, (others, were, d), f)) =
+    absurd (r.derives_none tree (subst (λ ws. Derives ws tree) (one_reading text tokens others words were are) d))
+one_of_tokens text tokens front other (inl (code, place, (words, are, r), e)) (inl (second, at, (others, were, q), f)) =
+    let s = grammar.one_refusal words (length text) code second place at r (subst (λ ws. IsRefused ws (length text) second at) (one_reading text tokens others words were are) q) in
+    e ∙ ap (λ c. refused_at c place) s.0 ∙ ap (refused_at second) s.1 ∙ sym f
 
 one_of_text : (text : List ℕ) (front other : Front) → IsFrontOfText text front → IsFrontOfText text other → front ≡ other
 one_of_text text front other (inl (c, p, r, e)) (inl (d, q, s, f)) =

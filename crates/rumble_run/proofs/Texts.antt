@@ -11,7 +11,7 @@ use Rattle.rumble_run.specs.declared.words.Task.{Task}
 use Rattle.rumble_run.specs.declared.words.Task.TheVariants.{Run, Check}
 
 -- a text is an ASCII word exactly where its characters are
-pub bytes_eq-encoded : (cs word : List ℕ) → all_scalars cs ≡ true → IsAscii word → bytes_eq (encode_utf8_all cs) word ≡ bytes_eq cs word
+bytes_eq-encoded : (cs word : List ℕ) → all_scalars cs ≡ true → IsAscii word → bytes_eq (encode_utf8_all cs) word ≡ bytes_eq cs word
 bytes_eq-encoded cs word s a =
     same_from_decides _ _
     (Decides-like _ (λ e. sym (chars-encodes cs s) ∙ ap chars e ∙ chars-IsAscii word a) (λ e. ap encode_utf8_all e ∙ encodes-IsAscii word a) (bytes_eq-Decides (encode_utf8_all cs) word))
@@ -31,32 +31,19 @@ first-encoded (d ∷ ds) c lt = same_from_decides _ _ (Decides-like _ there back
     back : d ≡ c → get_or (encode_utf8_all (d ∷ ds)) 0 0 ≡ c
     back e = rw e (ap (λ bs. get_or (bs ++ encode_utf8_all ds) 0 0) (encode_ascii c lt))
 
-pub IsAscii-run : IsAscii (codes "run")
+IsAscii-run : IsAscii (codes "run")
 IsAscii-run zero = lit< tt
 IsAscii-run (suc zero) = lit< tt
 IsAscii-run (suc (suc zero)) = lit< tt
 IsAscii-run (suc (suc (suc i))) = lit< tt
 
-pub IsAscii-check : IsAscii (codes "check")
+IsAscii-check : IsAscii (codes "check")
 IsAscii-check zero = lit< tt
 IsAscii-check (suc zero) = lit< tt
 IsAscii-check (suc (suc zero)) = lit< tt
 IsAscii-check (suc (suc (suc zero))) = lit< tt
 IsAscii-check (suc (suc (suc (suc zero)))) = lit< tt
 IsAscii-check (suc (suc (suc (suc (suc i))))) = lit< tt
-
-pub IsAscii-json_lines : IsAscii (codes "json-lines")
-IsAscii-json_lines zero = lit< tt
-IsAscii-json_lines (suc zero) = lit< tt
-IsAscii-json_lines (suc (suc zero)) = lit< tt
-IsAscii-json_lines (suc (suc (suc zero))) = lit< tt
-IsAscii-json_lines (suc (suc (suc (suc zero)))) = lit< tt
-IsAscii-json_lines (suc (suc (suc (suc (suc zero))))) = lit< tt
-IsAscii-json_lines (suc (suc (suc (suc (suc (suc zero)))))) = lit< tt
-IsAscii-json_lines (suc (suc (suc (suc (suc (suc (suc zero))))))) = lit< tt
-IsAscii-json_lines (suc (suc (suc (suc (suc (suc (suc (suc zero)))))))) = lit< tt
-IsAscii-json_lines (suc (suc (suc (suc (suc (suc (suc (suc (suc zero))))))))) = lit< tt
-IsAscii-json_lines (suc (suc (suc (suc (suc (suc (suc (suc (suc (suc i)))))))))) = lit< tt
 
 abbrev by_tests : Bool → Bool → Option Task
 by_tests run check = if run then Some Run else (if check then Some Check else None)

@@ -10,7 +10,8 @@ use Rattle.item_tree.specs.ItemText.{item_text}
 use Rattle.item_reader.specs.Lines.{without_mark}
 use Rattle.item_reader.specs.Reading.{items_of}
 use Rattle.outside.specs.World.{World, file_of}
-use Rattle.query_grammar.specs.Nodes.{Name, Module}
+use Rattle.query_tree.specs.Compiled.{BoundTrees}
+use Rattle.query_grammar.specs.Nodes.{Name}
 use Rattle.rumble_run.specs.Built.{input_of}
 use Rattle.rumble_run.specs.Command.{command_of}
 use Rattle.rumble_run.specs.Front.{Front, IsFront}
@@ -76,7 +77,7 @@ abbrev pub of_run : List ℕ → World → Option (Name × ℕ) → Answer
 of_run text world None = refused text (record { code = PJST0099; place = 0 })
 of_run text world (Some input) = of_result text (input_items input.1 (file_of world input.0))
 
-abbrev pub of_tree : Task → List ℕ → World → Module → Answer
+abbrev pub of_tree : Task → List ℕ → World → BoundTrees → Answer
 of_tree Check text world tree = accepted
 of_tree Run text world tree = of_run text world (input_of tree)
 

@@ -1,5 +1,5 @@
--- The front of a query: the tree that its bytes come to, or why they are refused and where.
-use Rattle.std.specs.Prelude.{◌≡◌, ◌⊎◌, ◌<◌, ◌≤◌, ℕ, List, length, take, Result, Ok, Err}
+-- The front of a query: the compiled tree that its bytes come to, or why they are refused and where.
+use Rattle.std.specs.Prelude.{◌≡◌, ◌⊎◌, ◌<◌, ◌≤◌, ℕ, List, Option, Some, None, length, take, Result, Ok, Err}
 use Rattle.std.specs.Str.{IsUtf8}
 use Rattle.item_tree.specs.declared.code.Code.{Code}
 use Rattle.item_tree.specs.declared.code.Code.TheVariants.{XPST0003, PJST0005}
@@ -7,18 +7,21 @@ use Rattle.item_tree.specs.declared.fault.Fault.{Fault}
 use Rattle.item_reader.specs.Lines.{without_mark}
 use Rattle.query_lexer.specs.Lexes.{Tokens, Refused}
 use Rattle.query_lexer.specs.declared.token.Token.{Token}
+use Rattle.query_tree.specs.Compiled.{BoundTrees}
 use Rattle.query_grammar.specs.Nodes.{Module}
-use Rattle.query_grammar.specs.declared.word.Word.{Word}
-use Rattle.query_grammar.specs.Words.{AreWords}
-use Rattle.query_grammar.specs.Texts.{IsRefused}
-use Rattle.query_parser.specs.Queries.{IsQuery}
+use Rattle.query_parser.specs.Queries.{IsQuery, IsFault}
+use Rattle.query_parser.specs.declared.reading.ParseFault.TheVariants as fault
+use Rattle.static_rules.specs.Compiling.{compiled_query}
+use Rattle.static_rules.specs.Refusals.{refusal}
+use Rattle.static_rules.specs.Rules.{code_of}
+use Rattle.static_rules.specs.declared.rules.Refusal.{Refusal}
 
 -- how many bytes a query may have, with a byte order mark
 abbrev pub max_length : ℕ
 max_length = 1048576
 
 abbrev pub Front : Type 0
-Front = Result Module Fault
+Front = Result BoundTrees Fault
 
 abbrev pub refused_at : Code → ℕ → Front
 refused_at code place = Err (record { code = code; place = place })
@@ -30,14 +33,20 @@ pub record BreaksAt (bytes : List ℕ) (place : ℕ) : Type 0 where
   pub before : IsUtf8 (take place bytes)
   pub longest : (more : ℕ) → place < more → IsUtf8 (take more bytes) → ⊥
 
--- the tokens of a text are refused with this code at this place
-abbrev pub IsParseRefusal : List ℕ → List Token → Code → ℕ → Type 0
-IsParseRefusal text tokens code place = (words : List Word) × AreWords text tokens words × IsRefused words (length text) code place
+-- what a query comes to that has this static refusal
+abbrev pub front_by : Module → Option Refusal → Front
+front_by query (Some r) = refused_at (code_of r.rule) r.place
+front_by query None = Ok (compiled_query query)
 
--- tokens are refused by the grammar, or derive a tree
+-- what a query comes to: it is refused where it breaks a static rule, and else compiled
+unfoldable pub static_front : Module → Front
+static_front query = front_by query (refusal query)
+
+-- tokens are refused by the grammar, or derive a query
 abbrev pub IsFrontOfTokens : List ℕ → List Token → Front → Type 0
-IsFrontOfTokens text tokens (Ok tree) = IsQuery text tokens tree
-IsFrontOfTokens text tokens (Err fault) = IsParseRefusal text tokens fault.code fault.place
+IsFrontOfTokens text tokens front =
+    ((code : Code) × (place : ℕ) × IsFault text tokens (fault.Refused code place) × (front ≡ refused_at code place))
+    ⊎ ((query : Module) × IsQuery text tokens query × (front ≡ static_front query))
 
 -- a text is refused by the lexical rules, or has tokens
 abbrev pub IsFrontOfText : List ℕ → Front → Type 0

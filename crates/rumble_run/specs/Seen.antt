@@ -1,10 +1,7 @@
 -- How contracts see an ending, and a front.
 use Rattle.std.specs.Prelude.{◌≡◌, ℕ, List, [], Option, None, Some, Result, Ok, Err, string_bytes}
 use Rattle.outside.specs.Counted.{Rose}
-use Rattle.query_tree.specs.Modules.{PlainModule, module_of}
-use Rattle.query_tree.specs.declared.module.Module.{Module}
-use Rattle.query_tree.specs.declared.names.TypeName.{TypeName}
-use Rattle.query_grammar.specs.Nodes.{Name}
+use Rattle.query_tree.specs.Compiled.{BoundTrees, CompiledTree, bound_trees}
 use Rattle.rumble_run.specs.Answer.{Answer}
 use Rattle.rumble_run.specs.Ends.{HasText}
 use Rattle.rumble_run.specs.Front.{Front}
@@ -49,12 +46,12 @@ abbrev pub EndsAs : Status → Status → ℕ → ℕ → Type 0
 EndsAs status WriteFault before after = (status ≡ Done) × Rose before after
 EndsAs status result before after = (result ≡ status) × (after ≡ before)
 
--- a query's tree as a plain value
-abbrev pub plain_of : Module Name Name TypeName → PlainModule Name Name TypeName
-plain_of query = module_of Name Name TypeName query
+-- a compiled query's tree as a plain value
+abbrev pub plain_of : CompiledTree → BoundTrees
+plain_of query = bound_trees query.tree
 
 -- a front that was found, where memory was there
-abbrev pub front_of : Result (Module Name Name TypeName) FrontFault → Option Front
+abbrev pub front_of : Result CompiledTree FrontFault → Option Front
 front_of (Ok query) = Some (Ok (plain_of query))
 front_of (Err (front.Refused fault)) = Some (Err fault)
 front_of (Err front.NoMemory) = None

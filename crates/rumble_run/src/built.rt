@@ -1,73 +1,44 @@
-ghost use Rattle.std.specs.Prelude.{◌≡◌, ℕ, List, None, Some, option_map, map};
-ghost use Rattle.query_tree.specs.Plain.{tree_of, trees_of};
-ghost use Rattle.query_tree.specs.declared.names.TypeName.{TypeName};
+ghost use Rattle.std.specs.Prelude.{◌≡◌, option_map};
+ghost use Rattle.seq_types.specs.declared.types.SeqType.{SeqType};
+ghost use Rattle.query_tree.specs.declared.bound.Slot.{Slot};
+ghost use Rattle.query_tree.specs.declared.bound.Target.{Target};
+ghost use Rattle.query_tree.specs.Plain.{form_of};
 ghost use Rattle.rumble_run.specs.Seen.{plain_of};
-ghost use Rattle.rumble_run.specs.Built.{text_in, call_in, only_text, is_reader, input_of_call, input_of};
+ghost use Rattle.rumble_run.specs.Built.{input_of_target, input_of_form, input_of};
 
 use item_tree::Str;
-use query_tree::{Kind, NamedExpr, Query};
+use query_tree::{Compiled, Kind, Slot, Target};
+use seq_types::SeqType;
 
-/// The function that reads an input.
-const READER: &str = "json-lines";
-
-// The value of a literal text.
-fn text_in(tree: &NamedExpr) -> Option<&Str>
-    ensures { option_map (λ text. text.now) result ≡ text_in (tree_of (List ℕ) (List ℕ) TypeName tree.now) }
+// The input that a target reads.
+fn input_of_target(target: &Target) -> Option<&Str>
+    ensures { option_map (λ name. name.now) result ≡ input_of_target target.now }
 {
-    match &tree.kind {
-        Kind::Text { value } => Some(value),
+    match target {
+        Target::Lines(name) => Some(name),
         _ => None,
     }
 }
 
-// The function that a call names, and its arguments.
-fn call_in(tree: &NamedExpr) -> Option<(&Str, &[NamedExpr])>
-    ensures { option_map (λ call. (call.0.now, trees_of (List ℕ) (List ℕ) TypeName (map (tree_of (List ℕ) (List ℕ) TypeName) call.1.now))) result ≡ call_in (tree_of (List ℕ) (List ℕ) TypeName tree.now) }
+// The input that an expression reads, where it is one call of `json-lines`.
+#[tactic(auto, using(query_tree::proofs::Layers::layers))]
+fn input_of_kind(kind: &Kind<Slot, Target, SeqType>) -> Option<&Str>
+    ensures { option_map (λ name. name.now) result ≡ input_of_form (form_of Slot Target SeqType kind.now) }
 {
-    match &tree.kind {
-        Kind::Call {
-            function,
-            arguments,
-        } => Some((function, arguments.as_slice())),
+    match kind {
+        Kind::Call { function, .. } => input_of_target(function),
         _ => None,
-    }
-}
-
-fn is_reader(name: &Str) -> bool
-    ensures { result ≡ is_reader name.now }
-{
-    name.as_str() == READER
-}
-
-// The text that arguments are, where they are exactly one text.
-fn only_text(arguments: &[NamedExpr]) -> Option<&Str>
-    ensures { option_map (λ text. text.now) result ≡ only_text (trees_of (List ℕ) (List ℕ) TypeName (map (tree_of (List ℕ) (List ℕ) TypeName) arguments.now)) }
-{
-    if arguments.len() != 1 {
-        return None;
-    }
-    text_in(&arguments[0])
-}
-
-// The input that a body reads, where it is one call of `json-lines` with a literal text.
-fn input_of_body(body: &NamedExpr) -> Option<&Str>
-    ensures { option_map (λ name. name.now) result ≡ input_of_call (call_in (tree_of (List ℕ) (List ℕ) TypeName body.now)) }
-{
-    let (name, arguments) = call_in(body)?;
-    if is_reader(name) {
-        only_text(arguments)
-    } else {
-        None
     }
 }
 
 /// The input that a query reads, and the place of `json-lines`, where `run` is built for the query.
-pub(crate) fn input_of(query: &Query) -> Option<(&Str, u32)>
+pub(crate) fn input_of(query: &Compiled) -> Option<(&Str, u32)>
     ensures { option_map (λ input. (input.0.now, input.1)) result ≡ input_of (plain_of query.now) }
 {
-    if !query.variables.is_empty() || !query.functions.is_empty() {
+    let module = query.module();
+    if !module.variables.is_empty() || !module.functions.is_empty() {
         return None;
     }
-    let name = input_of_body(&query.body)?;
-    Some((name, query.body.place))
+    let name = input_of_kind(&module.body.kind)?;
+    Some((name, module.body.place))
 }

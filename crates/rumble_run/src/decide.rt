@@ -17,9 +17,10 @@ use crate::print::print_items;
 use crate::read::read_named;
 use crate::status::{Status, Stop};
 use crate::words::{Task, command_of};
+use expression_parser::gather::discard;
 use item_tree::{Code, Fault, Item, NoMemory, Str};
 use outside::Inputs;
-use query_tree::Query;
+use query_tree::Compiled;
 use std::alloc::{AllocError, Global};
 
 // The words that the program knows.
@@ -127,7 +128,7 @@ fn of_input(alloc: Global, text: &[u8], place: u32, input: Option<Vec<u8>>) -> R
 fn of_run<I: Inputs>(
     alloc: Global,
     text: &[u8],
-    query: &Query,
+    query: &Compiled,
     inputs: &mut I,
 ) -> Result<Ending, Stop>
     ensures world { I.world inputs.new ≡ I.world inputs.old }
@@ -155,7 +156,7 @@ fn of_tree<I: Inputs>(
     alloc: Global,
     task: Task,
     text: &[u8],
-    query: &Query,
+    query: &Compiled,
     inputs: &mut I,
 ) -> Result<Ending, Stop>
     ensures world { I.world inputs.new ≡ I.world inputs.old }
@@ -193,8 +194,9 @@ fn of_query<I: Inputs>(
     let text = without_mark(query);
     match front(alloc, query) {
         Ok(tree) => {
-            let ending = of_tree(alloc, task, text, &tree, inputs)?;
-            Ok(ending)
+            let ending = of_tree(alloc, task, text, &tree, inputs);
+            discard(tree);
+            ending
         }
         Err(FrontFault::Refused(fault)) => Ok(tells_refusal(alloc, text, &fault)?),
         Err(FrontFault::NoMemory) => Err(Stop::NoMemory),

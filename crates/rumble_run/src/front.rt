@@ -1,18 +1,21 @@
 ghost use Rattle.std.specs.Prelude.{◌≡◌, IfSome};
-ghost use Rattle.rumble_run.specs.Front.{IsFront, IsFrontOfText};
+ghost use Rattle.static_rules.specs.Outcomes.{named_query};
+ghost use Rattle.rumble_run.specs.Front.{IsFront, IsFrontOfText, static_front};
 ghost use Rattle.rumble_run.specs.Seen.{front_of};
 
 use crate::mark::without_mark;
+use expression_parser::gather::discard;
 use item_tree::{Code, Fault};
 use query_lexer::{LexFault, tokens};
 use query_parser::{ParseFault, parse};
-use query_tree::Query;
+use query_tree::{Compiled, Query};
+use static_rules::{CompileFault, compile};
 use std::alloc::Global;
 
 /// How many bytes a query may have, with a byte order mark.
 const MAX_LENGTH: usize = 1_048_576;
 
-/// Why a query has no tree.
+/// Why a query is not compiled.
 #[derive(Debug, Drop)]
 pub(crate) enum FrontFault {
     /// The query is refused. The place counts behind a byte order mark.
@@ -26,8 +29,19 @@ fn refused(code: Code, place: u32) -> FrontFault
     FrontFault::Refused(Fault { code, place })
 }
 
-// The tree of a text, or its first refusal.
-fn front_of_text(alloc: Global, text: &str) -> Result<Query, FrontFault>
+// The compiled tree of a query, or its static refusal.
+fn front_of_query(alloc: Global, query: &Query) -> Result<Compiled, FrontFault>
+    ensures { IfSome (front_of result) (λ front. front ≡ static_front (named_query query.now)) }
+{
+    match compile(alloc, query) {
+        Ok(compiled) => Ok(compiled),
+        Err(CompileFault::Refused { code, place }) => Err(refused(code, place)),
+        Err(CompileFault::NoMemory) => Err(FrontFault::NoMemory),
+    }
+}
+
+// The compiled tree of a text, or its first refusal.
+fn front_of_text(alloc: Global, text: &str) -> Result<Compiled, FrontFault>
     ensures { IfSome (front_of result) (λ front. IsFrontOfText text.now front) }
 {
     let tokens = match tokens(alloc, text) {
@@ -36,14 +50,18 @@ fn front_of_text(alloc: Global, text: &str) -> Result<Query, FrontFault>
         Err(LexFault::NoMemory) => return Err(FrontFault::NoMemory),
     };
     match parse(alloc, text, &tokens) {
-        Ok(query) => Ok(query),
+        Ok(query) => {
+            let front = front_of_query(alloc, &query);
+            discard(query);
+            front
+        }
         Err(ParseFault::Refused { code, place }) => Err(refused(code, place)),
         Err(ParseFault::NoMemory) => Err(FrontFault::NoMemory),
     }
 }
 
-/// The tree of a query of these bytes, or its first refusal.
-pub(crate) fn front(alloc: Global, query: &[u8]) -> Result<Query, FrontFault>
+/// The compiled tree of a query of these bytes, or its first refusal.
+pub(crate) fn front(alloc: Global, query: &[u8]) -> Result<Compiled, FrontFault>
     ensures { IfSome (front_of result) (λ front. IsFront query.now front) }
 {
     if query.len() > MAX_LENGTH {

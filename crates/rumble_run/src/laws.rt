@@ -5,7 +5,7 @@ ghost use Rattle.std.specs.Prelude.{ℕ, List};
 ghost use Rattle.outside.specs.World.{World};
 ghost use Rattle.rumble_run.specs.Laws.{HasOneFront, HasOneAnswer};
 
-/// Every query has a front, a tree or a refusal, and only one.
+/// Every query has a front, a compiled tree or a refusal, and only one.
 pub fn one_front()
     ensures { (query : List ℕ) → HasOneFront query }
 {}

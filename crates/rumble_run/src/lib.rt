@@ -19,6 +19,8 @@ mod mark;
 mod place;
 mod print;
 mod read;
+#[cfg(test)]
+mod rule_tests;
 mod status;
 #[cfg(test)]
 mod tests;

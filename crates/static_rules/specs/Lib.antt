@@ -4,3 +4,13 @@ pub mod Rules
 pub mod Refusals
 pub mod Binders
 pub mod Compiling
+pub mod Walks
+pub mod Sources
+pub mod Gathering
+pub mod Openings
+pub mod Behind
+pub mod Calls
+pub mod Stacks
+pub mod Declarations
+pub mod Faults
+pub mod Outcomes

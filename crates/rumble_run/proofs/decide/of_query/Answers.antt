@@ -1,13 +1,13 @@
 use Rattle.std.proofs.Common.{Err}
 use Rattle.rumble_run.specs.Front.{IsFront}
 use Rattle.rumble_run.specs.Seen.{plain_of}
-use Rattle.rumble_run.proofs.Endings.{of_refusal, query_refused, query_parsed}
+use Rattle.rumble_run.proofs.Endings.{of_refusal, query_refused, query_ended}
 use Rattle.rumble_run.proofs.decide.of_query.Goals as goal
 
-pub returns-in_ok-ending-in-Ok-clause-value : goal.returns-in_ok-ending-in-Ok-clause-value
-returns-in_ok-ending-in-Ok-clause-value g c =
-    query_parsed _ c.args.task c.args.query.now c.without_mark-text.result.now (plain_of c.in-Ok.tree) (g.I.Inputs.world c.args.inputs.now)
-    c.without_mark-text.ensures.rest c.in-Ok.ensures c.in_ok-ending-in-Ok.ensures.value
+pub returns-in-Ok-clause-value : goal.returns-in-Ok-clause-value
+returns-in-Ok-clause-value g c =
+    query_ended _ c.args.task c.args.query.now c.without_mark-text.result.now (plain_of c.in-Ok.tree) (g.I.Inputs.world c.args.inputs.now)
+    c.without_mark-text.ensures.rest c.in-Ok.ensures c.of_tree-ending.ensures.value
 
 pub returns-in_ok-tells_refusal-in-Err-Refused-clause-value : goal.returns-in_ok-tells_refusal-in-Err-Refused-clause-value
 returns-in_ok-tells_refusal-in-Err-Refused-clause-value g c =

@@ -2,8 +2,12 @@ use Rattle.std.proofs.Common.{sym, subst, Err}
 use Rattle.std.specs.Prelude.{IfSome}
 use Rattle.rumble_run.specs.Front.{IsFront}
 use Rattle.rumble_run.specs.Seen.{front_of}
-use Rattle.rumble_run.proofs.Fronts.{broken}
+use Rattle.rumble_run.proofs.Fronts.{behind, broken}
 use Rattle.rumble_run.proofs.front.front.Goals as goal
+
+pub returns-in-Ok : goal.returns-in-Ok
+returns-in-Ok c =
+    behind c.args.query.now c.without_mark.result.now c.in-Ok.text.now (front_of c.front_of_text.result) c.if-query-gt-MAX_LENGTH.false c.without_mark.ensures.rest c.in-Ok.ensures.cases c.front_of_text.ensures
 
 pub returns-in-Err : goal.returns-in-Err
 returns-in-Err c =

@@ -1,0 +1,6 @@
+use Rattle.std.proofs.Common.{drop}
+use Rattle.static_rules.proofs.FunctionLoops.{FunctionsLeft}
+use Rattle.static_rules.proofs.declarations.functions.Given as goal
+
+abbrev pub invariant-loop-number : goal.invariant-loop-number
+invariant-loop-number l = FunctionsLeft l.initial.walk l.parts l.walk l.out.items l.width l.number (drop l.number l.parts)

@@ -1,0 +1,28 @@
+-- What compiling a query comes to.
+use Rattle.std.specs.Prelude.{◌≡◌, ℕ, List, Some, None}
+use Rattle.query_tree.specs.declared.module.Module.{Module}
+use Rattle.query_tree.specs.declared.names.TypeName.{TypeName}
+use Rattle.query_tree.specs.Modules.{module_of}
+use Rattle.query_tree.specs.Compiled.{CompiledTree, bound_trees}
+use Rattle.static_rules.specs.Views.{NamedQuery}
+use Rattle.static_rules.specs.Rules.{code_of}
+use Rattle.static_rules.specs.Refusals.{refusal}
+use Rattle.static_rules.specs.Compiling.{compiled_query, query_width}
+use Rattle.static_rules.specs.declared.compiling.CompileFault.{CompileFault}
+use Rattle.static_rules.specs.declared.compiling.CompileFault.TheVariants as fault
+use Rattle.static_rules.specs.declared.rules.Refusal.{Refusal}
+
+-- the plain value of a query as it was read
+abbrev pub named_query : Module (List ℕ) (List ℕ) TypeName → NamedQuery
+named_query = module_of (List ℕ) (List ℕ) TypeName
+
+-- the query breaks no rule, and this is its compiled tree, with frames as wide as its declarations and its body need
+pub record CompilesTo (q : NamedQuery) (c : CompiledTree) : Type 0 where
+  pub accepted : refusal q ≡ None
+  pub tree : bound_trees c.tree ≡ compiled_query q
+  pub width : c.width ≡ query_width q
+
+-- the query is refused so, or memory ran out
+abbrev pub IsCompileFault : NamedQuery → CompileFault → Type 0
+IsCompileFault q fault.NoMemory = Unit {0}
+IsCompileFault q (fault.Refused code place) = (r : Refusal) × (refusal q ≡ Some r) × (code ≡ code_of r.rule) × (place ≡ r.place)

@@ -1,0 +1,2 @@
+for $order in json-lines("orders.jsonl")
+return $oder.price
