@@ -3,8 +3,8 @@ ghost use Rattle.item_tree.specs.Codes.{code_text};
 
 /// What went wrong, by the codes of XQuery, of JSONiq and of this engine.
 ///
-/// The second letter group tells when it is found: a code with `ST` refuses a query before it runs,
-/// and any other is raised by a run. `PJST0099` stands for a query that is not built yet.
+/// A code with `ST`, and `XPDY0002`, refuse a query before it runs; any other is raised by a run.
+/// `PJST0099` stands for a query that is not built yet.
 #[derive(Clone, Copy, Debug, PartialEq, Eq)]
 pub enum Code {
     /// The text is not of the grammar.
@@ -25,7 +25,7 @@ pub enum Code {
     XQST0089,
     /// A grouping variable is none of the stream.
     XQST0094,
-    /// There is no context item.
+    /// There is no context item where `$$` stands.
     XPDY0002,
     /// A `treat as` does not hold.
     XPDY0050,
@@ -55,7 +55,7 @@ pub enum Code {
     JNDY0021,
     /// An object or an array where an atomic is wanted.
     JNTY0004,
-    /// A key of a lookup is no string.
+    /// The key of a lookup is not one atomic.
     JNTY0018,
     /// A form of the language that this engine refuses.
     PJST0001,
@@ -67,6 +67,14 @@ pub enum Code {
     PJST0004,
     /// A query is too long.
     PJST0005,
+    /// An import leads back to a file that is being loaded.
+    PJST0006,
+    /// An imported library does not exist.
+    PJST0007,
+    /// An import would load a 65th file, the query counted.
+    PJST0008,
+    /// A library's body is not `()`.
+    PJST0009,
     /// A query that is not built yet.
     PJST0099,
     /// An evaluation is more than 1,000 deep.
@@ -115,6 +123,10 @@ impl Code {
             Code::PJST0003 => "PJST0003",
             Code::PJST0004 => "PJST0004",
             Code::PJST0005 => "PJST0005",
+            Code::PJST0006 => "PJST0006",
+            Code::PJST0007 => "PJST0007",
+            Code::PJST0008 => "PJST0008",
+            Code::PJST0009 => "PJST0009",
             Code::PJST0099 => "PJST0099",
             Code::PJDY0001 => "PJDY0001",
             Code::PJDY0002 => "PJDY0002",

@@ -16,7 +16,7 @@ mod truth;
 pub use atom_text::{push_decimal, text_of};
 pub use code::Code;
 pub use compare::{cmp_atoms, deep_equal, same_key};
-pub use fault::{Fault, MakeFault, NoMemory, OpFault};
+pub use fault::{Fault, MakeFault, NoMemory, OpFault, Spot};
 pub use functions::FnId;
 pub use item::{Item, Items, Pairs, array_of, object_of, object_of_distinct};
 pub use number::{Units, Whole};
