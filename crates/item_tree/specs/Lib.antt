@@ -1,4 +1,5 @@
 pub mod Codes
+pub mod Faults
 pub mod Datum
 pub mod DatumCode
 pub mod Item

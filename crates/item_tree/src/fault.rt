@@ -1,3 +1,6 @@
+ghost use Rattle.std.specs.Prelude.{◌≡◌};
+ghost use Rattle.item_tree.specs.Faults.{fault_at};
+
 use crate::Code;
 use std::alloc::{AllocError, AllocFailed};
 
@@ -24,6 +27,19 @@ pub struct Fault {
     /// Where it left a FLWOR expression: the outermost one, where they are nested. `None` for an
     /// error that left none.
     pub spot: Option<Spot>,
+}
+
+impl Fault {
+    /// The error of this code at this place, which has left no FLWOR expression.
+    pub fn at(code: Code, place: u32) -> Fault
+        ensures { result ≡ fault_at code place }
+    {
+        Fault {
+            code,
+            place,
+            spot: None,
+        }
+    }
 }
 
 /// Why an operation has no value.
