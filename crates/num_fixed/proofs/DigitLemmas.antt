@@ -5,7 +5,7 @@ use Rattle.std.proofs.lemmas.Bool.{and_parts, eqb-true, cases_Bool, eqb-false, a
 use Rattle.std.proofs.lemmas.Bool.Decides.{nat_tests}
 use Rattle.std.proofs.Math.Nat.{pow-succ', mul-le-mul_right}
 use Rattle.std.specs.List.{list_all}
-use Rattle.num_fixed.specs.Digits.{IsRest, IsLarge, Against, rounded_by}
+use Rattle.num_fixed.specs.inside.Digits.{IsRest, IsLarge, Against, rounded_by}
 use Rattle.num_fixed.specs.Numeral.{number_of}
 use Rattle.std.specs.Char.{is_ascii_digit}
 use Rattle.num_fixed.specs.declared.digits.Rest.{Rest}

@@ -3,7 +3,7 @@ use Rattle.std.proofs.Common.{◌≡◌, ℕ, suc, ◌+◌, ◌-◌, ◌*◌, �
 use Rattle.std.proofs.Math.Nat.{pow-succ', mul-le-mul_right, pow-le-pow_right}
 use Rattle.std.specs.List.{list_all}
 use Rattle.num_fixed.specs.Nearest.{IsNearestNatural}
-use Rattle.num_fixed.specs.Digits.{IsLarge}
+use Rattle.num_fixed.specs.inside.Digits.{IsLarge}
 use Rattle.num_fixed.specs.Numeral.{number_of}
 use Rattle.std.specs.Char.{is_ascii_digit}
 use Rattle.num_fixed.proofs.DigitLemmas.{one_large, number_below, power_some, zeros, not_zeros}

@@ -10,3 +10,5 @@ pub mod Signs
 pub mod TotalLemmas
 pub mod TextLemmas
 pub mod NumeralLemmas
+pub mod ValueLemmas
+mod ValueRows

@@ -144,7 +144,7 @@ one_numeral m n l g h =
 
 -- ---- one number
 
-ratio_some : (k : ℕ) → pos (10 ^ k) ≢ pos 0
+pub ratio_some : (k : ℕ) → pos (10 ^ k) ≢ pos 0
 ratio_some k e = let some = power_some k in let none : 10 ^ k ≡ 0 = ap unsigned_abs e in omega arith
 
 decimal_said_by : (n : Numeral) → IsSome n.frac ⊎ IsSome n.exp → (x : Number) × Says n x

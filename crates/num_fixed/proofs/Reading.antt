@@ -8,7 +8,7 @@ use Rattle.std.proofs.Math.Seq.{take-append_seam, drop-append_seam, take-length}
 use Rattle.std.proofs.lemmas.Int.{ints}
 use Rattle.std.proofs.lemmas.List.{append-nil}
 use Rattle.num_fixed.specs.Bounds.{bound, InBounds, NumberInBounds, IsOver}
-use Rattle.num_fixed.specs.Digits.{IsLarge}
+use Rattle.num_fixed.specs.inside.Digits.{IsLarge}
 use Rattle.num_fixed.specs.Nearest.{IsNearest, IsNearestNatural, IsNearestUnit}
 use Rattle.num_fixed.specs.Signs.{with_sign, differ}
 use Rattle.num_fixed.specs.declared.number.Kind.{Kind}

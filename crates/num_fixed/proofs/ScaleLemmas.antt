@@ -5,7 +5,7 @@ use Rattle.std.proofs.Common.{pow-add}
 use Rattle.std.proofs.Common.{Option, Some, None}
 use Rattle.std.specs.Prelude.{IfSome, IfNone, MatchOption}
 use Rattle.num_fixed.specs.Nearest.{IsNearestNatural}
-use Rattle.num_fixed.specs.Digits.{IsLarge}
+use Rattle.num_fixed.specs.inside.Digits.{IsLarge}
 use Rattle.num_fixed.proofs.DigitLemmas.{one_large, power_some}
 
 cancel : (a b q : ℕ) → 0 < q → a * q ≡ b * q → a ≡ b
@@ -79,3 +79,5 @@ large_first n up down h big = one_large (n * 10 ^ up) (10 ^ down) (n * 10 ^ (up 
     let some = power_some (up - down) in
     let v : n * 1 ≤ n * 10 ^ (up - down) = mul-le-mul_left n (omega arith) in
     omega arith)
+
+pub ruleset zero_steps = (one_more, stays_large)

@@ -1,5 +1,6 @@
+pub mod inside
 pub mod Bounds
-pub mod Digits
+pub mod Laws
 pub mod Nearest
 pub mod Numeral
 pub mod Quotients
@@ -7,3 +8,4 @@ pub mod Rounding
 pub mod Scan
 pub mod Signs
 pub mod Totals
+pub mod Values

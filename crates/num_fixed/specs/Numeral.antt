@@ -1,11 +1,14 @@
 -- The text of a number, by the parts and names of RFC 8259, section 6.
--- It is wider here than there: the sign may be a plus, digits may begin with zeros, and one side of the point may lack digits.
+-- It is wider here than there: the sign may be a plus, digits may begin with zeros, and one side of
+-- the point may lack digits.
 use Rattle.std.specs.Prelude.{◌≡◌, ◌⊎◌, ◌<◌, ℕ, ◌+◌, ◌*◌, ◌-◌, ◌^◌, ℤ, pos, Bool, true, false, List, [], ◌∷◌, ◌++◌, length, Option, Some, None, IsSome}
 use Rattle.std.specs.Char.{is_ascii_digit}
 use Rattle.std.specs.List.{list_all}
 use Rattle.num_fixed.specs.Bounds.{NumberInBounds}
 use Rattle.num_fixed.specs.Nearest.{IsNearestUnit}
 use Rattle.num_fixed.specs.Signs.{with_sign}
+use Rattle.num_fixed.specs.declared.number.NumFault.{NumFault}
+use Rattle.num_fixed.specs.declared.number.NumFault.TheVariants.{Overflow}
 use Rattle.num_fixed.specs.declared.number.Number.{Number}
 use Rattle.num_fixed.specs.declared.number.Number.TheVariants.{Int, Dec}
 
@@ -14,7 +17,8 @@ pub data Sign : Type 0 where
   plus : Sign
   minus : Sign
 
--- the digits before the point; those behind it, if there is one; and the exponent's sign and digits, if there is one
+-- the digits before the point; those behind it, if there is one; and the exponent's sign and digits,
+-- if there is one
 pub record Numeral : Type 0 where
   pub sign : Sign
   pub int : List ℕ
@@ -38,7 +42,9 @@ IsFrac (Some ds) l r = AreDigits ds × (l ≡ 46 ∷ (ds ++ r))
 -- the letter e of either case, and behind it a sign, if there is one, and a digit or more
 abbrev pub IsExp : Option (Sign × List ℕ) → List ℕ → List ℕ → Type 0
 IsExp None l r = l ≡ r
-IsExp (Some e) l r = (m : List ℕ) × ((l ≡ 101 ∷ m) ⊎ (l ≡ 69 ∷ m)) × IsSign e.0 m (e.1 ++ r) × AreDigits e.1 × (0 < length e.1)
+IsExp (Some e) l r =
+    (m : List ℕ) × ((l ≡ 101 ∷ m) ⊎ (l ≡ 69 ∷ m))
+    × IsSign e.0 m (e.1 ++ r) × AreDigits e.1 × (0 < length e.1)
 
 abbrev pub frac_digits : Option (List ℕ) → List ℕ
 frac_digits None = []
@@ -87,9 +93,12 @@ abbrev pub lowered : Option (Sign × List ℕ) → ℕ
 lowered None = 0
 lowered (Some e) = lowered_by (is_minus e.0) e.1
 
--- m is the nearest number of units: the digits, raised, over the power of ten by which the places behind the point and the exponent lower them
+-- m is the nearest number of units: the digits, raised, over the power of ten by which the places
+-- behind the point and the exponent lower them
 abbrev pub IsUnitsOf : Bool → List ℕ → ℕ → Option (Sign × List ℕ) → ℤ → Type 0
-IsUnitsOf negative ds places exp m = IsNearestUnit (with_sign negative (number_of 0 ds * 10 ^ raised exp)) (pos (10 ^ (places + lowered exp))) m
+IsUnitsOf negative ds places exp m =
+    let n = with_sign negative (number_of 0 ds * 10 ^ raised exp) in
+    IsNearestUnit n (pos (10 ^ (places + lowered exp))) m
 
 abbrev pub IsDecimalOf : Bool → List ℕ → ℕ → Option (Sign × List ℕ) → Number → Type 0
 IsDecimalOf negative ds places exp (Int m) = ⊥
@@ -97,9 +106,20 @@ IsDecimalOf negative ds places exp (Dec m) = IsUnitsOf negative ds places exp m
 
 -- without point and exponent it is an integer, and else a decimal
 abbrev pub Says : Numeral → Number → Type 0
-Says n (Int m) = (n.frac ≡ None) × (n.exp ≡ None) × (m ≡ with_sign (is_minus n.sign) (number_of 0 n.int))
-Says n (Dec m) = (IsSome n.frac ⊎ IsSome n.exp) × IsUnitsOf (is_minus n.sign) (n.int ++ frac_digits n.frac) (length (frac_digits n.frac)) n.exp m
+Says n (Int m) =
+    (n.frac ≡ None) × (n.exp ≡ None) × (m ≡ with_sign (is_minus n.sign) (number_of 0 n.int))
+Says n (Dec m) =
+    let ds = frac_digits n.frac in
+    (IsSome n.frac ⊎ IsSome n.exp) × IsUnitsOf (is_minus n.sign) (n.int ++ ds) (length ds) n.exp m
 
 -- it says no number in bounds
 abbrev pub IsOutOfBounds : Numeral → Type 0
 IsOutOfBounds n = (x : Number) → Says n x → ¬ NumberInBounds x
+
+-- the number that it says, which is in bounds
+abbrev pub IsSaid : Numeral → Number → Type 0
+IsSaid n x = Says n x × NumberInBounds x
+
+-- what is refused of a numeral that says no number in bounds
+abbrev pub IsRefused : Numeral → NumFault → Type 0
+IsRefused n e = (e ≡ Overflow) × IsOutOfBounds n

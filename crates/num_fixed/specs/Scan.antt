@@ -35,7 +35,10 @@ only_exp (b ∷ l) = (b == 101 || b == 69) && only_digits (behind_sign l)
 -- what may stand behind the digits before the point, where these are some
 abbrev pub ends_well : Bool → List ℕ → Bool
 ends_well some [] = some
-ends_well some (b ∷ l) = if b == 46 then (some || nat_lt 0 (digits_len l)) && only_exp (drop (digits_len l) l) else some && only_exp (b ∷ l)
+ends_well some (b ∷ l) =
+    if b == 46 then (some || nat_lt 0 (digits_len l)) && only_exp (drop (digits_len l) l)
+    else some && only_exp (b ∷ l)
 
 abbrev pub number_at : List ℕ → Bool
-number_at l = ends_well (nat_lt 0 (digits_len (behind_sign l))) (drop (digits_len (behind_sign l)) (behind_sign l))
+number_at l =
+    let u = behind_sign l in ends_well (nat_lt 0 (digits_len u)) (drop (digits_len u) u)

@@ -1,5 +1,6 @@
 -- Exact totals.
-use Rattle.std.specs.Prelude.{◌≡◌, ℕ, ◌+◌, ◌*◌, ◌-◌, ◌^◌, ◌%◌, ◌<◌, ◌≤◌, ℤ, pos, ◌+ℤ◌, Bool, true, false, ◌&&◌, List, [], ◌∷◌, unsigned_abs}
+use Rattle.std.specs.Prelude.{◌≡◌, ◌≢◌, ℕ, ◌+◌, ◌*◌, ◌-◌, ◌^◌, ◌%◌, ◌<◌, ◌≤◌, ℤ, pos, ◌+ℤ◌, Bool, true, false, ◌&&◌, List, [], ◌∷◌, unsigned_abs}
+use Rattle.num_fixed.specs.Nearest.{IsNearest}
 use Rattle.num_fixed.specs.Rounding.{units_of}
 use Rattle.num_fixed.specs.declared.number.Kind.{Kind}
 use Rattle.num_fixed.specs.declared.number.Kind.TheVariants.{Whole, Units}
@@ -28,7 +29,8 @@ abbrev pub one : Number → Tally
 one x = record { units = number_units x; count = 1; whole = is_int x }
 
 abbrev pub joined : Tally → Tally → Tally
-joined s t = record { units = s.units +ℤ t.units; count = s.count + t.count; whole = s.whole && t.whole }
+joined s t =
+    record { units = s.units +ℤ t.units; count = s.count + t.count; whole = s.whole && t.whole }
 
 abbrev pub tally_of : List Number → Tally
 tally_of [] = nothing
@@ -44,3 +46,7 @@ pub record IsKept (t : Tally) : Type 0 where
 abbrev pub IsSum : Kind → Tally → ℤ → Type 0
 IsSum Whole t m = units_of m ≡ t.units
 IsSum Units t m = m ≡ t.units
+
+-- m is the number of units nearest to the sum of some numbers divided by how many they are
+abbrev pub IsMean : Tally → ℤ → Type 0
+IsMean t m = (t.count ≢ 0) × IsNearest t.units (pos t.count) m

@@ -1,7 +1,6 @@
-ghost use Rattle.std.specs.Prelude.{◌≡◌, ◌<◌, ◌≤◌, ℕ, ◌+◌, ◌*◌, ◌^◌, ◌==◌, ◌∷◌, ◌++◌, length, true, MatchOption, IfSome, IfNone};
+ghost use Rattle.std.specs.Prelude.{◌≡◌, ◌<◌, ◌^◌, ◌==◌, ◌∷◌, ◌++◌};
 ghost use Rattle.std.specs.List.{list_all};
-ghost use Rattle.num_fixed.specs.Digits.{IsRest, IsLarge, rounded_by};
-ghost use Rattle.num_fixed.specs.Nearest.{IsNearestNatural};
+ghost use Rattle.num_fixed.specs.inside.Digits.{IsRest, rounded_by, IsWithin, IsFoundBefore, IsMissedBefore};
 ghost use Rattle.num_fixed.specs.Numeral.{AreDigits, number_of};
 
 use crate::bounds::UNITS_BOUND;
@@ -18,7 +17,7 @@ enum Rest {
 #[tactic(auto, using(crate::proofs::DigitLemmas::large_now))]
 fn number_behind(start: u128, digits: &[u8]) -> Option<u128>
     requires { start < 10 ^ 26 }
-    ensures { MatchOption result (10 ^ 26 ≤ number_of start digits.now) (λ n. (n ≡ number_of start digits.now) × (n < 10 ^ 26)) }
+    ensures { IsWithin (number_of start digits.now) result }
 {
     let mut n = start;
     for b in digits {
@@ -33,7 +32,7 @@ fn number_behind(start: u128, digits: &[u8]) -> Option<u128>
 /// The number that digits in two pieces spell, where it is in bounds.
 #[tactic(auto, using(crate::proofs::DigitLemmas::number_steps))]
 pub(crate) fn number_of(first: &[u8], second: &[u8]) -> Option<u128>
-    ensures { MatchOption result (10 ^ 26 ≤ number_of 0 (first.now ++ second.now)) (λ n. (n ≡ number_of 0 (first.now ++ second.now)) × (n < 10 ^ 26)) }
+    ensures { IsWithin (number_of 0 (first.now ++ second.now)) result }
 {
     match number_behind(0, first) {
         Some(n) => number_behind(n, second),
@@ -100,8 +99,8 @@ pub(crate) fn nearest_to_first(
     fourth: &[u8],
 ) -> Option<u128>
     requires { AreDigits (third.now ++ fourth.now) }
-    ensures found { IfSome result (λ m. IsNearestNatural (number_of 0 ((first.now ++ second.now) ++ (third.now ++ fourth.now))) (10 ^ length (third.now ++ fourth.now)) m × (m < 10 ^ 26)) }
-    ensures none { IfNone result (IsLarge (number_of 0 ((first.now ++ second.now) ++ (third.now ++ fourth.now))) (10 ^ length (third.now ++ fourth.now))) }
+    ensures found { IsFoundBefore (first.now ++ second.now) (third.now ++ fourth.now) result }
+    ensures none { IsMissedBefore (first.now ++ second.now) (third.now ++ fourth.now) result }
 {
     match number_of(first, second) {
         None => None,

@@ -1,12 +1,10 @@
-ghost use Rattle.std.specs.Prelude.{◌≡◌, ◌↔◌, IsTrue, ℕ, [], ◌++◌, length, take, drop, List, Option, IfOk, IfErr};
+ghost use Rattle.std.specs.Prelude.{◌≡◌, ◌↔◌, IsTrue, [], ◌++◌, take, drop, IfOk, IfErr};
 ghost use Rattle.std.specs.Char.{is_ascii_digit};
 ghost use Rattle.std.specs.List.{list_all};
-ghost use Rattle.num_fixed.specs.Bounds.{InBounds, NumberInBounds, IsOver};
-ghost use Rattle.num_fixed.specs.Numeral.{AreDigits, Sign, Numeral, IsExp, IsNumeral, IsNumberText, IsOutOfBounds, IsUnitsOf, IsDecimalOf, Says, number_of};
+ghost use Rattle.num_fixed.specs.Bounds.{NumberInBounds};
+ghost use Rattle.num_fixed.specs.Numeral.{AreDigits, Numeral, IsNumeral, IsNumberText, IsSaid, IsRefused};
 ghost use Rattle.num_fixed.specs.Scan.{minus_at, behind_sign, digits_len, exp_minus_at, exp_digits_at, only_digits, only_exp, ends_well};
-ghost use Rattle.num_fixed.specs.Signs.{with_sign};
-ghost use Rattle.num_fixed.specs.declared.number.Kind.TheVariants.{Whole, Units};
-ghost use Rattle.num_fixed.specs.declared.number.Number.TheVariants.{Int};
+ghost use Rattle.num_fixed.specs.inside.Reads.{IsIntegerOf, IsIntegerOver, IsDecimalRead, IsDecimalOver};
 ghost use Rattle.num_fixed.specs.declared.number.NumFault.TheVariants.{Overflow};
 
 use crate::bounds::WHOLE_BOUND;
@@ -106,8 +104,8 @@ pub fn is_number(text: &[u8]) -> bool
 
 /// The integer that digits spell.
 fn read_int(negative: bool, digits: &[u8]) -> Result<Number, NumFault>
-    ensures value { IfOk result (λ x. (x ≡ Int (with_sign negative (number_of 0 digits.now))) × NumberInBounds x) }
-    ensures overflow { IfErr result (λ e. (e ≡ Overflow) × (¬ InBounds Whole (with_sign negative (number_of 0 digits.now)))) }
+    ensures value { IfOk result (λ x. IsIntegerOf negative digits.now x × NumberInBounds x) }
+    ensures overflow { IfErr result (λ e. (e ≡ Overflow) × IsIntegerOver negative digits.now) }
 {
     match number_of(digits, &[]) {
         Some(size) => {
@@ -130,8 +128,8 @@ fn read_dec(
     exponent: &[u8],
 ) -> Result<Number, NumFault>
     requires { AreDigits (whole.now ++ fraction.now) }
-    ensures value { (x : Option (Sign × List ℕ)) → IsExp x exponent.now [] → IfOk result (λ y. IsDecimalOf negative (whole.now ++ fraction.now) (length fraction.now) x y × NumberInBounds y) }
-    ensures overflow { (x : Option (Sign × List ℕ)) → IsExp x exponent.now [] → IfErr result (λ e. (e ≡ Overflow) × IsOver Units (IsUnitsOf negative (whole.now ++ fraction.now) (length fraction.now) x)) }
+    ensures value { IsDecimalRead negative whole.now fraction.now exponent.now result }
+    ensures overflow { IsDecimalOver negative whole.now fraction.now exponent.now result }
 {
     let (small, digits) = split_exponent(exponent);
     match size_in_units(whole, fraction, small, digits) {
@@ -145,8 +143,8 @@ fn read_dec(
 /// the text, and never answers `ZeroDivisor`.
 pub fn read_number(text: &[u8]) -> Result<Number, NumFault>
     requires { IsNumberText text.now }
-    ensures value { (n : Numeral) → IsNumeral n text.now [] → IfOk result (λ x. Says n x × NumberInBounds x) }
-    ensures overflow { (n : Numeral) → IsNumeral n text.now [] → IfErr result (λ e. (e ≡ Overflow) × IsOutOfBounds n) }
+    ensures value { (n : Numeral) → IsNumeral n text.now [] → IfOk result (IsSaid n) }
+    ensures overflow { (n : Numeral) → IsNumeral n text.now [] → IfErr result (IsRefused n) }
 {
     let (negative, unsigned) = split_sign(text);
     let (whole, rest) = split_digits(unsigned);

@@ -1,7 +1,6 @@
-ghost use Rattle.std.specs.Prelude.{◌≡◌, ◌<◌, ◌≤◌, ℕ, ◌+◌, ◌*◌, ◌^◌, ◌++◌, length, ℤ, pos, MatchOption, IfSome, IfNone};
-ghost use Rattle.num_fixed.specs.Digits.{IsLarge};
-ghost use Rattle.num_fixed.specs.Nearest.{IsNearestNatural};
-ghost use Rattle.num_fixed.specs.Numeral.{AreDigits, number_of, raised_by, lowered_by};
+ghost use Rattle.std.specs.Prelude.{◌<◌, ◌≤◌, ◌+◌, ◌*◌, ◌^◌, ◌++◌, length};
+ghost use Rattle.num_fixed.specs.inside.Digits.{IsWithin, IsFound, IsMissed, IsFoundAt, IsMissedAt, IsSize, IsNoSize};
+ghost use Rattle.num_fixed.specs.Numeral.{AreDigits, number_of};
 
 use crate::bounds::UNITS_BOUND;
 use crate::digits::{all_zero_in, nearest_to_first, number_of};
@@ -13,8 +12,8 @@ const UNIT_PLACES: u128 = 6;
 /// the point.
 fn nearest_without(whole: &[u8], fraction: &[u8], last: u128) -> Option<u128>
     requires { AreDigits (whole.now ++ fraction.now) }
-    ensures found { IfSome result (λ m. IsNearestNatural (number_of 0 (whole.now ++ fraction.now)) (10 ^ last) m × (m < 10 ^ 26)) }
-    ensures none { IfNone result (IsLarge (number_of 0 (whole.now ++ fraction.now)) (10 ^ last)) }
+    ensures found { IsFound (number_of 0 (whole.now ++ fraction.now)) (10 ^ last) result }
+    ensures none { IsMissed (number_of 0 (whole.now ++ fraction.now)) (10 ^ last) result }
 {
     if last > whole.len() as u128 + fraction.len() as u128 {
         return Some(0);
@@ -30,10 +29,10 @@ fn nearest_without(whole: &[u8], fraction: &[u8], last: u128) -> Option<u128>
 
 /// A number with some zeros behind it, where it is in bounds. It stops at the bound, so a large
 /// number of zeros takes no time.
-#[tactic(auto, using(crate::proofs::ScaleLemmas::one_more, crate::proofs::ScaleLemmas::stays_large))]
+#[tactic(auto, using(crate::proofs::ScaleLemmas::zero_steps))]
 fn shifted(n: u128, zeros: u128) -> Option<u128>
     requires { n < 10 ^ 26 }
-    ensures { MatchOption result (10 ^ 26 ≤ n * 10 ^ zeros) (λ m. (m ≡ n * 10 ^ zeros) × (m < 10 ^ 26)) }
+    ensures { IsWithin (n * 10 ^ zeros) result }
 {
     if n == 0 {
         return Some(0);
@@ -51,8 +50,8 @@ fn shifted(n: u128, zeros: u128) -> Option<u128>
 /// The number nearest to what digits in two pieces spell, raised and then lowered by powers of ten.
 fn scaled(whole: &[u8], fraction: &[u8], up: u128, down: u128) -> Option<u128>
     requires { AreDigits (whole.now ++ fraction.now) }
-    ensures found { IfSome result (λ m. IsNearestNatural (number_of 0 (whole.now ++ fraction.now) * 10 ^ up) (10 ^ down) m × (m < 10 ^ 26)) }
-    ensures none { IfNone result (IsLarge (number_of 0 (whole.now ++ fraction.now) * 10 ^ up) (10 ^ down)) }
+    ensures found { IsFoundAt whole.now fraction.now up down result }
+    ensures none { IsMissedAt whole.now fraction.now up down result }
 {
     if up < down {
         return nearest_without(whole, fraction, down - up);
@@ -69,8 +68,8 @@ fn far(whole: &[u8], fraction: &[u8], small: bool, exponent: &[u8]) -> Option<u1
     requires digits { AreDigits (whole.now ++ fraction.now) }
     requires room { length whole.now + length fraction.now < 2 ^ 65 }
     requires big { 10 ^ 26 ≤ number_of 0 exponent.now }
-    ensures found { IfSome result (λ m. IsNearestNatural (number_of 0 (whole.now ++ fraction.now) * 10 ^ (6 + raised_by small exponent.now)) (10 ^ (length fraction.now + lowered_by small exponent.now)) m × (m < 10 ^ 26)) }
-    ensures none { IfNone result (IsLarge (number_of 0 (whole.now ++ fraction.now) * 10 ^ (6 + raised_by small exponent.now)) (10 ^ (length fraction.now + lowered_by small exponent.now))) }
+    ensures found { IsSize whole.now fraction.now small exponent.now result }
+    ensures none { IsNoSize whole.now fraction.now small exponent.now result }
 {
     if all_zero_in(whole, fraction) {
         return Some(0);
@@ -87,8 +86,8 @@ pub(crate) fn size_in_units(
     exponent: &[u8],
 ) -> Option<u128>
     requires { AreDigits (whole.now ++ fraction.now) }
-    ensures found { IfSome result (λ m. IsNearestNatural (number_of 0 (whole.now ++ fraction.now) * 10 ^ (6 + raised_by small exponent.now)) (10 ^ (length fraction.now + lowered_by small exponent.now)) m × (m < 10 ^ 26)) }
-    ensures none { IfNone result (IsLarge (number_of 0 (whole.now ++ fraction.now) * 10 ^ (6 + raised_by small exponent.now)) (10 ^ (length fraction.now + lowered_by small exponent.now))) }
+    ensures found { IsSize whole.now fraction.now small exponent.now result }
+    ensures none { IsNoSize whole.now fraction.now small exponent.now result }
 {
     let places = fraction.len() as u128;
     match number_of(exponent, &[]) {

@@ -395,6 +395,10 @@ fn totals(rt: HostRuntime) {
     halves.add(&Dec(0));
     assert_eq!(rt; halves.mean(), Ok(2));
     assert_eq!(rt; halves.value(Units), Ok(6));
+    // only integers, and not
+    assert!(rt; Total::new().is_whole());
+    assert!(rt; total.is_whole());
+    assert!(rt; !halves.is_whole());
     // merged
     let mut both = Total::new();
     both.merge(&halves);

@@ -1,7 +1,6 @@
 ghost use Rattle.std.specs.Prelude.{◌≡◌, ◌≢◌, ◌+◌, ◌<◌, ◌^◌, ℤ, pos, IsTrue, IfOk, IfErr};
 ghost use Rattle.num_fixed.specs.Bounds.{InBounds, NumberInBounds, IsOver};
-ghost use Rattle.num_fixed.specs.Nearest.{IsNearest};
-ghost use Rattle.num_fixed.specs.Totals.{number_units, is_int, nothing, one, joined, IsSum};
+ghost use Rattle.num_fixed.specs.Totals.{number_units, is_int, nothing, one, joined, IsSum, IsMean};
 ghost use Rattle.num_fixed.specs.declared.number.Kind.TheVariants.{Whole, Units};
 ghost use Rattle.num_fixed.specs.declared.number.NumFault.TheVariants.{ZeroDivisor, Overflow};
 
@@ -108,13 +107,20 @@ impl Total {
 
     /// The units nearest to the sum divided by the number. They are never out of bounds.
     pub fn mean(&self) -> Result<i128, NumFault>
-        ensures value { IfOk result (λ m. (self.now.count ≢ 0) × IsNearest self.now.units (pos self.now.count) m × InBounds Units m) }
+        ensures value { IfOk result (λ m. IsMean self.now m × InBounds Units m) }
         ensures zero { IfErr result (λ e. (e ≡ ZeroDivisor) × (self.now.count ≡ 0)) }
     {
         if self.count == 0 {
             return Err(NumFault::ZeroDivisor);
         }
         Ok(nearest(self.units, i128::from(self.count)))
+    }
+
+    /// Whether all that was added are integers: then [`Total::value`] counts in ones too.
+    pub fn is_whole(&self) -> bool
+        ensures { result ≡ self.now.whole }
+    {
+        self.whole
     }
 
     /// How many numbers were added.

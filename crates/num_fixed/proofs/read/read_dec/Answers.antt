@@ -2,7 +2,7 @@ use Rattle.std.proofs.Common.{◌≡◌, ◌+◌, ◌*◌, ◌^◌, ◌++◌, le
 use Rattle.std.specs.Int.{w128}
 use Rattle.std.proofs.lemmas.Int.{to_z-of_z}
 use Rattle.num_fixed.specs.Bounds.{InBounds}
-use Rattle.num_fixed.specs.Digits.{IsLarge}
+use Rattle.num_fixed.specs.inside.Digits.{IsLarge}
 use Rattle.num_fixed.specs.Nearest.{IsNearestNatural, IsNearestUnit}
 use Rattle.num_fixed.specs.Numeral.{number_of, raised_by, lowered_by, raised, lowered}
 use Rattle.num_fixed.specs.Signs.{with_sign}

@@ -1,7 +1,7 @@
 use Rattle.std.proofs.Common.{◌++◌, ◌+◌, ◌^◌, ◌*◌, sym, ◌∙◌, subst, arith, length, length-append}
 use Rattle.num_fixed.specs.Nearest.{IsNearestNatural}
 use Rattle.num_fixed.specs.Numeral.{number_of, raised_by, lowered_by}
-use Rattle.num_fixed.specs.Digits.{IsLarge}
+use Rattle.num_fixed.specs.inside.Digits.{IsLarge}
 use Rattle.num_fixed.proofs.FarLemmas.{far_down, far_up, zero_scaled}
 use Rattle.num_fixed.proofs.scale.far.Goals as goal
 
