@@ -6,4 +6,5 @@ mod Frames
 pub mod Layers
 mod Maps
 mod NestingLaws
+pub mod NestingLists
 mod NestingRows

@@ -2,7 +2,8 @@
 -- forms that nest are a FLWOR, a quantifier, a switch, a typeswitch, an if and a try, parentheses, an
 -- object, a merge, an array and a call, a step with an expression in brackets, and a look-up in
 -- parentheses. An operator adds nothing, and a step doesn't hold the expression before it.
-use Rattle.std.specs.Prelude.{ℕ, ◌+◌, max}
+use Rattle.std.specs.Prelude.{ℕ, ◌+◌, max, List, [], ◌∷◌}
+use Rattle.query_tree.specs.Modules.{PlainVariable, PlainFunction, PlainModule}
 use Rattle.query_tree.specs.Plain as p
 use Rattle.query_tree.specs.Plain.{Tree, Trees, Form, MaybeTree, PlainOperand, PlainOperands, PlainTerm, PlainTerms, PlainFactor, PlainFactors, PlainBind, PlainBinds, PlainCase, PlainCases, PlainTypeCase, PlainTypeCases, PlainCatch, PlainCatches, PlainPair, PlainPairs, PlainStep, PlainSteps, PlainLookup, PlainClause, PlainClauses, PlainGroupVar, PlainGroupVars, PlainOrderKey, PlainOrderKeys}
 
@@ -155,3 +156,21 @@ abbrev mutual
   pub order_keys_nesting : {V F T : Type 0} → PlainOrderKeys V F T → ℕ
   order_keys_nesting p.no_order_keys = 0
   order_keys_nesting (p.more_order_keys k ks) = max (order_key_nesting k) (order_keys_nesting ks)
+
+-- the greatest number that the elements of a list have; 0 where there is none
+abbrev pub greatest : {A : Type 0} → (A → ℕ) → List A → ℕ
+greatest depth [] = 0
+greatest depth (x ∷ xs) = max (depth x) (greatest depth xs)
+
+abbrev pub variable_nesting : {V F T : Type 0} → PlainVariable V F T → ℕ
+variable_nesting v = nesting v.value
+
+abbrev pub function_nesting : {V F T : Type 0} → PlainFunction V F T → ℕ
+function_nesting f = nesting f.body
+
+-- how deep the most deeply nested of a module's expressions is nested
+abbrev pub module_nesting : {V F T : Type 0} → PlainModule V F T → ℕ
+module_nesting m =
+    let variables = greatest variable_nesting m.variables in
+    let functions = greatest function_nesting m.functions in
+    max variables (max functions (nesting m.body))
