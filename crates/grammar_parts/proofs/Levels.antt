@@ -35,7 +35,7 @@ LawInside {S = S} w production f e b = At S w.mode w.room_in2 w.within (producti
 abbrev pub Lawful : {T K I A : Type 0} → Language T K → Sets K I → Step T I A → Type 1
 Lawful {T = T} {K = K} {I = I} {A = A} S sets step = (w : Ground T K I A S sets) (i : I) → Law w (λ m inner. step m inner i) (λ m. sets.first i m.wide m.room) (λ m. sets.ext i m.wide) false
 
-no_room : false ≡ true → ⊥
+pub no_room : false ≡ true → ⊥
 no_room e = cc
 
 -- what stands inside a form is the level below
@@ -44,7 +44,7 @@ unfolding inside
 inside-level step wide zero h = absurd (omega arith)
 inside-level step wide (suc n) h = let e : n ≡ suc n - 1 = omega arith in ap (λ k. level step wide k) e
 
-zero_more : zero ≤ suc zero
+pub zero_more : zero ≤ suc zero
 zero_more = omega arith
 
 pub one_more : (k : ℕ) → suc k ≤ suc k
@@ -68,7 +68,7 @@ module _ {T K I A : Type 0} (S : Language T K) (sets : Sets K I) (step : Step T 
   }
 
   -- the ground where none may
-  abbrev bare : Ground T K I A S sets
+  abbrev pub bare : Ground T K I A S sets
   bare = record {
     mode = mode_at wide zero;
     room_in2 = false;

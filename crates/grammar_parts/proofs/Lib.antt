@@ -2,6 +2,7 @@ pub mod Cuts
 pub mod SimpleParts
 pub mod Alike
 pub mod Choice
+pub mod Counts
 pub mod Ahead
 pub mod Longest
 pub mod Repeated
@@ -9,5 +10,6 @@ pub mod Depth
 pub mod AllKinds
 pub mod Modes
 pub mod Levels
+pub mod Nested
 pub mod TurnLemmas
 pub mod WholeTexts

@@ -36,7 +36,7 @@ bool_at : (f : Bool → Bool) → each_bool f ≡ true → (b : Bool) → f b �
 bool_at f e true = (and_parts (f true) (f false) e).0
 bool_at f e false = (and_parts (f true) (f false) e).1
 
-each_at : {T K : Type 0} (S : Language T K) (f : Mode → K → Bool) → each S f ≡ true → (m : Mode) (k : K) → f m k ≡ true
+pub each_at : {T K : Type 0} (S : Language T K) (f : Mode → K → Bool) → each S f ≡ true → (m : Mode) (k : K) → f m k ≡ true
 each_at S f e m k =
     let r : Bool → Bool = λ w. each_bool (λ r. each_bool (λ i. each_of (f (record { wide = w; room = r; room_in = i })) S.kinds.all)) in
     let s : Bool → Bool = λ r. each_bool (λ i. each_of (f (record { wide = m.wide; room = r; room_in = i })) S.kinds.all) in
@@ -52,14 +52,14 @@ neither true true e p q = cc
 neither true false e p q = cc
 neither false b e p q = cc
 
-apart_at : {T K : Type 0} (S : Language T K) (c d : Set K) → are_apart S c d ≡ true → (m : Mode) → Apart (over S.kind (c m)) (over S.kind (d m))
+pub apart_at : {T K : Type 0} (S : Language T K) (c d : Set K) → are_apart S c d ≡ true → (m : Mode) → Apart (over S.kind (c m)) (over S.kind (d m))
 apart_at S c d e m t p q = neither (c m (S.kind t)) (d m (S.kind t)) (each_at S (λ m k. not (c m k && d m k)) e m (S.kind t)) p q
 
 abbrev same : Bool → Bool → Bool
 same true b = b
 same false b = not b
 
-abbrev implies : Bool → Bool → Bool
+abbrev pub implies : Bool → Bool → Bool
 implies true b = b
 implies false b = true
 
@@ -72,7 +72,7 @@ same_is true b e = sym e
 same_is false true e = absurd cc
 same_is false false e = refl
 
-implied : (a b : Bool) → implies a b ≡ true → a ≡ true → b ≡ true
+pub implied : (a b : Bool) → implies a b ≡ true → a ≡ true → b ≡ true
 implied true b e f = e
 implied false b e f = absurd cc
 

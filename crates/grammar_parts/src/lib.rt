@@ -3,7 +3,10 @@
 //!
 //! # How a production is written
 //!
-//! A production has a line in `specs/`, a law in `proofs/` and a function in Rust.
+//! A production has a line in `specs/`, a law in `proofs/` and a function in Rust. The grammar of
+//! queries is the example: of its production `paren`, the line stands in `query_grammar`'s
+//! `specs/Grammar.antt`, the law in its `proofs/Productions.antt`, and the function in
+//! `expression_parser`. What follows shows them in short.
 //!
 //! **The line** says the production by the ways to combine parts, which `specs/Parts.antt` defines:
 //!
@@ -51,6 +54,10 @@
 //! and that on lists of `k` tokens all levels from `k` on are the same. `proofs/WholeTexts.antt` has
 //! what follows for a text: it derives one value at most, reading gives exactly this value, and what
 //! is refused is refused at the first token that goes on with no beginning.
+//!
+//! **What nests.** `proofs/Nested.antt` ties the levels to the values: if each production counts
+//! what nests in it (`proofs/Counts.antt` has a law for each way to combine parts), then a level
+//! has exactly the values of a higher one that are nested no deeper than the level allows.
 //!
 //! **The function** reads as the line does, token by token, from a [`Cursor`]. Its contract names the
 //! line, and it needs no proof file; what stands inside a form is read by a function value that is
