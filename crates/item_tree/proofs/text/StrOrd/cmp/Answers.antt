@@ -1,6 +1,6 @@
 use Rattle.std.proofs.Common.{◌∙◌}
 use Rattle.item_tree.proofs.TextOrder.{same_order}
-use Rattle.item_tree.proofs.text.Str.compare.Goals as goal
+use Rattle.item_tree.proofs.text.StrOrd.cmp.Goals as goal
 
 pub returns : goal.returns
 returns c =
