@@ -2,7 +2,7 @@
 use Rattle.std.proofs.Common.{◌≡◌, ℕ, ◌+◌, ◌<◌, ◌≤◌, max, List, [], ◌∷◌, ◌++◌, length, map, get_or, take, refl, sym, ap, subst, ◌∙◌, arith, inl, inr, ◌⊎◌}
 use Rattle.std.proofs.lemmas.List.{take_more}
 use Rattle.item_tree.specs.declared.item.Item.{Item}
-use Rattle.item_tree.specs.Datum.{Datum, null, boolean, integer, decimal, text, array, object, depth, array_of_list, object_of_pairs, values, Sound, AllSound}
+use Rattle.item_tree.specs.Datum.{Datum, null, boolean, integer, decimal, text, date, date_time, array, object, depth, array_of_list, object_of_pairs, values, Sound, AllSound}
 use Rattle.item_tree.specs.Item.{datum, datums}
 use Rattle.item_tree.specs.Laws.{greatest, DepthsAreKept}
 use Rattle.item_tree.specs.Made.{HasDeep}
@@ -31,6 +31,8 @@ sound_depth (boolean b) s = omega arith
 sound_depth (integer n) s = omega arith
 sound_depth (decimal m) s = omega arith
 sound_depth (text t) s = omega arith
+sound_depth (date d) s = omega arith
+sound_depth (date_time t) s = omega arith
 sound_depth (array vs) s = omega (arith, s.1)
 sound_depth (object ms) s = omega (arith, s.2)
 

@@ -1,5 +1,5 @@
 -- The texts of atomics other than strings are ASCII, so their bytes are their characters.
-use Rattle.std.proofs.Common.{◌≡◌, ℕ, suc, ◌+◌, ◌/◌, ◌%◌, ◌^◌, ◌<◌, ◌==◌, Bool, true, false, if◌then◌else◌, List, [], ◌∷◌, drop, refl, arith, ℤ, pos, negsuc}
+use Rattle.std.proofs.Common.{◌≡◌, ℕ, zero, suc, ◌+◌, ◌/◌, ◌%◌, ◌^◌, ◌<◌, ◌==◌, Bool, true, false, if◌then◌else◌, List, [], ◌∷◌, drop, refl, arith, ℤ, pos, negsuc}
 use Rattle.std.specs.Prelude.{codes}
 use Rattle.std.specs.Fmt.{decimal}
 use Rattle.std.specs.List.{list_all}
@@ -9,15 +9,21 @@ use Rattle.std.proofs.lemmas.Int.{ints}
 use Rattle.std.proofs.lemmas.Str.{IsAscii-append, IsAscii-drop, chars-IsAscii}
 use Rattle.std.proofs.lemmas.Str.Ascii.{IsAscii-nil, IsAscii-cons}
 use Rattle.item_tree.specs.Datum.{IsUnits}
+use Rattle.item_tree.specs.Digits.{last_digits}
 use Rattle.item_tree.specs.ItemText.{without_last_zeros, fraction_text, units_text, decimal_text, boolean_text}
 
-last_zeros_ascii : (ds : List ℕ) → IsAscii ds → IsAscii (without_last_zeros ds)
+pub last_zeros_ascii : (ds : List ℕ) → IsAscii ds → IsAscii (without_last_zeros ds)
 last_zeros_ascii [] h = IsAscii-nil
 last_zeros_ascii (d ∷ ds) h = by (list_all (λ e. e == 48) (d ∷ ds)) (IsAscii-cons d (without_last_zeros ds) (h 0) (last_zeros_ascii ds (λ i. h (suc i))))
   where
     by : (b : Bool) → IsAscii (d ∷ without_last_zeros ds) → IsAscii (if b then [] else d ∷ without_last_zeros ds)
     by true k = IsAscii-nil
     by false k = k
+
+pub digits_ascii : (count n : ℕ) → IsAscii (last_digits count n)
+digits_ascii zero n = IsAscii-nil
+digits_ascii (suc count) n =
+    IsAscii-append (last_digits count (n / 10)) ((48 + n % 10) ∷ []) (digits_ascii count (n / 10)) (IsAscii-cons (48 + n % 10) [] (omega arith) IsAscii-nil)
 
 fraction_ascii : (units : ℕ) → units < 1000000 → IsAscii (fraction_text units)
 fraction_ascii units l = by (units == 0) (IsAscii-cons 46 _ (omega arith) (last_zeros_ascii _ (IsAscii-drop (decimal (1000000 + units)) 1 (IsAscii-decimal (1000000 + units) (omega arith)))))

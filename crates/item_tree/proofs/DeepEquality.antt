@@ -2,7 +2,7 @@
 use Rattle.std.proofs.Common.{◌≡◌, ℕ, Bool, true, ◌&&◌, ◌==◌, List, length, refl, sym, ap, subst, ◌∙◌, arith, Option, Some, None}
 use Rattle.std.specs.Option.{IsSome}
 use Rattle.std.proofs.lemmas.Bool.Decides.{nat_tests}
-use Rattle.item_tree.specs.Datum.{Datum, null, boolean, integer, decimal, text, array, object, Data, no_values, value, Members, no_members, member, pairs, values, Sound, AllSound, MembersSound}
+use Rattle.item_tree.specs.Datum.{Datum, null, boolean, integer, decimal, text, date, date_time, array, object, Data, no_values, value, Members, no_members, member, pairs, values, Sound, AllSound, MembersSound}
 use Rattle.item_tree.specs.Lookup.{lookup}
 use Rattle.item_tree.specs.Compare.{equal, equal_data, equal_in, passes, compare_atoms, is_equal}
 use Rattle.item_tree.specs.Laws.{ItemsAreEquivalent, SequencesAreEquivalent, AtomicsCompare}
@@ -15,6 +15,8 @@ atomics_compare (boolean b) w h = refl
 atomics_compare (integer n) w h = refl
 atomics_compare (decimal m) w h = refl
 atomics_compare (text t) w h = refl
+atomics_compare (date d) w h = refl
+atomics_compare (date_time d) w h = refl
 atomics_compare (array vs) w h = absurd h
 atomics_compare (object ms) w h = absurd h
 
@@ -35,6 +37,8 @@ mutual
   equal-same (integer n) s = ap is_equal (compare-same (integer n) tt)
   equal-same (decimal m) s = ap is_equal (compare-same (decimal m) tt)
   equal-same (text t) s = ap is_equal (compare-same (text t) tt)
+  equal-same (date d) s = ap is_equal (compare-same (date d) tt)
+  equal-same (date_time d) s = ap is_equal (compare-same (date_time d) tt)
   equal-same (array vs) s = data-same vs s.0
   equal-same (object ms) s = join (length (pairs ms) == length (pairs ms)) (equal_in ms (pairs ms)) (counts_same (length (pairs ms)) (length (pairs ms)) refl) (members-same ms (pairs ms) s.0 (each_found ms s.1))
 
@@ -81,11 +85,15 @@ mutual
   back (integer n) s w t e = atom_back (integer n) w e
   back (decimal m) s w t e = atom_back (decimal m) w e
   back (text u) s w t e = atom_back (text u) w e
+  back (date d) s w t e = atom_back (date d) w e
+  back (date_time d) s w t e = atom_back (date_time d) w e
   back (array vs) s null t e = absurd (cc)
   back (array vs) s (boolean b) t e = absurd (cc)
   back (array vs) s (integer n) t e = absurd (cc)
   back (array vs) s (decimal m) t e = absurd (cc)
   back (array vs) s (text u) t e = absurd (cc)
+  back (array vs) s (date d) t e = absurd (cc)
+  back (array vs) s (date_time d) t e = absurd (cc)
   back (array vs) s (array ws) t e = data_back vs s.0 ws t.0 e
   back (array vs) s (object ns) t e = absurd (cc)
   back (object ms) s null t e = absurd (cc)
@@ -93,6 +101,8 @@ mutual
   back (object ms) s (integer n) t e = absurd (cc)
   back (object ms) s (decimal m) t e = absurd (cc)
   back (object ms) s (text u) t e = absurd (cc)
+  back (object ms) s (date d) t e = absurd (cc)
+  back (object ms) s (date_time d) t e = absurd (cc)
   back (object ms) s (array ws) t e = absurd (cc)
   back (object ms) s (object ns) t e = object_back ms s ns t (values_back ms s.0) e
 
@@ -119,17 +129,23 @@ mutual
   along (integer n) w x e f = atom_along (integer n) w x e f
   along (decimal m) w x e f = atom_along (decimal m) w x e f
   along (text u) w x e f = atom_along (text u) w x e f
+  along (date d) w x e f = atom_along (date d) w x e f
+  along (date_time d) w x e f = atom_along (date_time d) w x e f
   along (array vs) null x e f = absurd (cc)
   along (array vs) (boolean b) x e f = absurd (cc)
   along (array vs) (integer n) x e f = absurd (cc)
   along (array vs) (decimal m) x e f = absurd (cc)
   along (array vs) (text u) x e f = absurd (cc)
+  along (array vs) (date d) x e f = absurd (cc)
+  along (array vs) (date_time d) x e f = absurd (cc)
   along (array vs) (object ns) x e f = absurd (cc)
   along (array vs) (array ws) null e f = absurd (cc)
   along (array vs) (array ws) (boolean b) e f = absurd (cc)
   along (array vs) (array ws) (integer n) e f = absurd (cc)
   along (array vs) (array ws) (decimal m) e f = absurd (cc)
   along (array vs) (array ws) (text u) e f = absurd (cc)
+  along (array vs) (array ws) (date d) e f = absurd (cc)
+  along (array vs) (array ws) (date_time d) e f = absurd (cc)
   along (array vs) (array ws) (object ns) e f = absurd (cc)
   along (array vs) (array ws) (array xs) e f = data_along vs ws xs e f
   along (object ms) null x e f = absurd (cc)
@@ -137,12 +153,16 @@ mutual
   along (object ms) (integer n) x e f = absurd (cc)
   along (object ms) (decimal m) x e f = absurd (cc)
   along (object ms) (text u) x e f = absurd (cc)
+  along (object ms) (date d) x e f = absurd (cc)
+  along (object ms) (date_time d) x e f = absurd (cc)
   along (object ms) (array ws) x e f = absurd (cc)
   along (object ms) (object ns) null e f = absurd (cc)
   along (object ms) (object ns) (boolean b) e f = absurd (cc)
   along (object ms) (object ns) (integer n) e f = absurd (cc)
   along (object ms) (object ns) (decimal m) e f = absurd (cc)
   along (object ms) (object ns) (text u) e f = absurd (cc)
+  along (object ms) (object ns) (date d) e f = absurd (cc)
+  along (object ms) (object ns) (date_time d) e f = absurd (cc)
   along (object ms) (object ns) (array ws) e f = absurd (cc)
   along (object ms) (object ns) (object os) e f =
       let p = both (length (pairs ms) == length (pairs ns)) (equal_in ms (pairs ns)) e in

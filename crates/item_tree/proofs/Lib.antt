@@ -13,3 +13,5 @@ pub mod AsciiTexts
 pub mod FunctionNames
 mod StringRows
 mod TextRows
+mod DateOrder
+mod DateRows

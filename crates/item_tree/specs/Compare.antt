@@ -5,7 +5,8 @@ use Rattle.std.specs.Cmp.Lexicographic.{slice_cmp}
 use Rattle.std.specs.declared.cmp.Ordering.{Ordering}
 use Rattle.std.specs.declared.cmp.Ordering.TheVariants.{Less, Equal, Greater}
 use Rattle.std.proofs.Common.{◌*ℤ◌}
-use Rattle.item_tree.specs.Datum.{Datum, null, boolean, integer, decimal, text, array, object, Data, no_values, value, Members, no_members, member, values, pairs}
+use Rattle.item_tree.specs.Datum.{Datum, null, boolean, integer, decimal, text, date, date_time, array, object, Data, no_values, value, Members, no_members, member, values, pairs}
+use Rattle.item_tree.specs.Dates.{Date, DateTime, date_cmp, date_time_cmp}
 use Rattle.item_tree.specs.Lookup.{lookup}
 
 -- an atomic by its class; numbers are of one class, by their units of 10^-6
@@ -14,6 +15,8 @@ pub data Atom : Type 0 where
   truth : Bool → Atom
   number : ℤ → Atom
   string : List ℕ → Atom
+  day : Date → Atom
+  moment : DateTime → Atom
 
 -- a whole number in units of 10^-6
 abbrev pub whole_units : ℤ → ℤ
@@ -26,27 +29,31 @@ atom (boolean b) = Some (truth b)
 atom (integer n) = Some (number (whole_units n))
 atom (decimal m) = Some (number m)
 atom (text t) = Some (string t)
+atom (date d) = Some (day d)
+atom (date_time t) = Some (moment t)
 atom (array vs) = None
 atom (object ms) = None
 
--- null is less than every other atomic, and no two other classes compare; false is less than true, and strings compare by code points
+-- null is less than every other atomic, and no two other classes compare; false is less than true, strings
+-- compare by code points, and dates and date-times by time
 abbrev pub order : Atom → Atom → Option Ordering
 order nothing nothing = Some Equal
-order nothing (truth c) = Some Less
-order nothing (number n) = Some Less
-order nothing (string u) = Some Less
+order nothing _ = Some Less
 order (truth b) nothing = Some Greater
 order (truth b) (truth c) = Some (bool_cmp b c)
-order (truth b) (number n) = None
-order (truth b) (string u) = None
+order (truth b) _ = None
 order (number m) nothing = Some Greater
-order (number m) (truth c) = None
 order (number m) (number n) = Some (int_cmp m n)
-order (number m) (string u) = None
+order (number m) _ = None
 order (string t) nothing = Some Greater
-order (string t) (truth c) = None
-order (string t) (number n) = None
 order (string t) (string u) = Some (slice_cmp nat_cmp t u)
+order (string t) _ = None
+order (day d) nothing = Some Greater
+order (day d) (day e) = Some (date_cmp d e)
+order (day d) _ = None
+order (moment t) nothing = Some Greater
+order (moment t) (moment u) = Some (date_time_cmp t u)
+order (moment t) _ = None
 
 abbrev pub order_if : Option Atom → Option Atom → Option Ordering
 order_if None b = None
@@ -83,6 +90,8 @@ abbrev mutual
   equal (integer n) w = is_equal (compare_atoms (integer n) w)
   equal (decimal m) w = is_equal (compare_atoms (decimal m) w)
   equal (text t) w = is_equal (compare_atoms (text t) w)
+  equal (date d) w = is_equal (compare_atoms (date d) w)
+  equal (date_time t) w = is_equal (compare_atoms (date_time t) w)
   equal (array vs) (array ws) = equal_data vs ws
   equal (array vs) _ = false
   equal (object ms) (object ns) = (length (pairs ms) == length (pairs ns)) && equal_in ms (pairs ns)

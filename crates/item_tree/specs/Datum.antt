@@ -3,6 +3,7 @@
 use Rattle.std.specs.Prelude.{◌≡◌, ◌≢◌, ℕ, ◌+◌, ◌^◌, ◌<◌, max, ℤ, pos, Bool, true, false, List, [], ◌∷◌, refl}
 use Rattle.std.specs.Str.{all_scalars}
 use Rattle.std.proofs.Common.{neg_ℤ, ◌<ℤ◌}
+use Rattle.item_tree.specs.Dates.{Date, DateTime, IsDate, IsDateTime}
 
 -- an object's members stand in order of insertion; a text is the list of its characters' codes
 mutual
@@ -12,6 +13,8 @@ mutual
     integer : ℤ → Datum
     decimal : ℤ → Datum
     text : List ℕ → Datum
+    date : Date → Datum
+    date_time : DateTime → Datum
     array : Data → Datum
     object : Members → Datum
 
@@ -71,6 +74,8 @@ abbrev mutual
   depth (integer n) = 0
   depth (decimal m) = 0
   depth (text t) = 0
+  depth (date d) = 0
+  depth (date_time t) = 0
   depth (array vs) = data_depth vs + 1
   depth (object ms) = members_depth ms + 1
 
@@ -98,7 +103,8 @@ IsWhole n = (neg_ℤ (pos (10 ^ 20)) <ℤ n) × (n <ℤ pos (10 ^ 20))
 abbrev pub IsUnits : ℤ → Type 0
 IsUnits m = (neg_ℤ (pos (10 ^ 26)) <ℤ m) × (m <ℤ pos (10 ^ 26))
 
--- at every level the numbers are within their bounds, the texts are of characters, an object's keys differ, and the depth is at most 128
+-- at every level the numbers are within their bounds, the texts are of characters, the calendar has the
+-- dates, an object's keys differ, and the depth is at most 128
 abbrev mutual
   pub Sound : Datum → Type 0
   Sound null = Unit {0}
@@ -106,6 +112,8 @@ abbrev mutual
   Sound (integer n) = IsWhole n
   Sound (decimal m) = IsUnits m
   Sound (text t) = all_scalars t ≡ true
+  Sound (date d) = IsDate d
+  Sound (date_time t) = IsDateTime t
   Sound (array vs) = AllSound vs × (data_depth vs < 128)
   Sound (object ms) = MembersSound ms × KeysDiffer (pairs ms) × (members_depth ms < 128)
 

@@ -3,7 +3,7 @@ use Rattle.std.specs.Prelude.{ℕ, ◌+◌, ◌≤◌, List, [], ◌∷◌}
 use Rattle.std.proofs.Common.{arith}
 use denote.Param.Weighed.{most}
 use Rattle.item_tree.specs.declared.item.Item.{Item}
-use Rattle.item_tree.specs.declared.item.Item.TheVariants.{Null, Bool, Int, Dec, Text, Array, Object}
+use Rattle.item_tree.specs.declared.item.Item.TheVariants.{Null, Bool, Int, Dec, Text, Date, DateTime, Array, Object}
 use Rattle.item_tree.specs.declared.item.Items.TheDeep.{deep-Item}
 use Rattle.item_tree.specs.declared.item.Items.TheShapes.{weighed-Pairs-pairs-at-2}
 use Rattle.item_tree.specs.Datum.{depth, array_of_list, object_of_pairs}
@@ -15,6 +15,8 @@ deep_le (Bool b) = omega arith
 deep_le (Int n) = omega arith
 deep_le (Dec m) = omega arith
 deep_le (Text t) = omega arith
+deep_le (Date d) = omega arith
+deep_le (DateTime t) = omega arith
 deep_le (Array vs) = omega arith
 deep_le (Object ps) = omega arith
 

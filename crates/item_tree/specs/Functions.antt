@@ -4,7 +4,7 @@ use Rattle.std.specs.Str.{bytes_eq}
 use Rattle.item_tree.specs.declared.functions.Arity.{Arity}
 use Rattle.item_tree.specs.declared.functions.Arity.TheVariants.{Exactly, AtLeast}
 use Rattle.item_tree.specs.declared.functions.FnId.{FnId}
-use Rattle.item_tree.specs.declared.functions.FnId.TheVariants.{Count, Empty, Exists, Head, Tail, Reverse, Subsequence, Subsequence3, InsertBefore, Remove, DistinctValues, IndexOf, DeepEqual, Boolean, ZeroOrOne, OneOrMore, ExactlyOne, Keys, Values, Members, Size, Project, RemoveKeys, Flatten, DescendantObjects, DescendantArrays, Accumulate, Abs, Floor, Ceiling, Round, RoundHalfToEven, Sum, Avg, Min, Max, String, Concat, StringJoin, StringJoin2, StringLength, Substring, Substring3, Contains, StartsWith, EndsWith, SubstringBefore, SubstringAfter, NormalizeSpace, Tokenize, Translate, StringToCodepoints, Serialize, ParseJson, Error}
+use Rattle.item_tree.specs.declared.functions.FnId.TheVariants.{Count, Empty, Exists, Head, Tail, Reverse, Subsequence, Subsequence3, InsertBefore, Remove, DistinctValues, IndexOf, DeepEqual, Boolean, ZeroOrOne, OneOrMore, ExactlyOne, Keys, Values, Members, Size, Project, RemoveKeys, Flatten, DescendantObjects, DescendantArrays, Accumulate, Abs, Floor, Ceiling, Round, RoundHalfToEven, Sum, Avg, Min, Max, String, Concat, StringJoin, StringJoin2, StringLength, Substring, Substring3, Contains, StartsWith, EndsWith, SubstringBefore, SubstringAfter, NormalizeSpace, Tokenize, Translate, StringToCodepoints, Serialize, ParseJson, Error, YearFromDate, MonthFromDate, DayFromDate, AddDays, DaysBetween}
 
 -- the name of a function, and how many arguments it takes
 abbrev pub signature : FnId → List ℕ × Arity
@@ -63,10 +63,15 @@ signature StringToCodepoints = (codes "string-to-codepoints", Exactly 1)
 signature Serialize = (codes "serialize", Exactly 1)
 signature ParseJson = (codes "parse-json", Exactly 1)
 signature Error = (codes "error", Exactly 0)
+signature YearFromDate = (codes "year-from-date", Exactly 1)
+signature MonthFromDate = (codes "month-from-date", Exactly 1)
+signature DayFromDate = (codes "day-from-date", Exactly 1)
+signature AddDays = (codes "add-days", Exactly 2)
+signature DaysBetween = (codes "days-between", Exactly 2)
 
 -- all functions, in this order
 abbrev pub functions : List FnId
-functions = Count ∷ Empty ∷ Exists ∷ Head ∷ Tail ∷ Reverse ∷ Subsequence ∷ Subsequence3 ∷ InsertBefore ∷ Remove ∷ DistinctValues ∷ IndexOf ∷ DeepEqual ∷ Boolean ∷ ZeroOrOne ∷ OneOrMore ∷ ExactlyOne ∷ Keys ∷ Values ∷ Members ∷ Size ∷ Project ∷ RemoveKeys ∷ Flatten ∷ DescendantObjects ∷ DescendantArrays ∷ Accumulate ∷ Abs ∷ Floor ∷ Ceiling ∷ Round ∷ RoundHalfToEven ∷ Sum ∷ Avg ∷ Min ∷ Max ∷ String ∷ Concat ∷ StringJoin ∷ StringJoin2 ∷ StringLength ∷ Substring ∷ Substring3 ∷ Contains ∷ StartsWith ∷ EndsWith ∷ SubstringBefore ∷ SubstringAfter ∷ NormalizeSpace ∷ Tokenize ∷ Translate ∷ StringToCodepoints ∷ Serialize ∷ ParseJson ∷ Error ∷ []
+functions = Count ∷ Empty ∷ Exists ∷ Head ∷ Tail ∷ Reverse ∷ Subsequence ∷ Subsequence3 ∷ InsertBefore ∷ Remove ∷ DistinctValues ∷ IndexOf ∷ DeepEqual ∷ Boolean ∷ ZeroOrOne ∷ OneOrMore ∷ ExactlyOne ∷ Keys ∷ Values ∷ Members ∷ Size ∷ Project ∷ RemoveKeys ∷ Flatten ∷ DescendantObjects ∷ DescendantArrays ∷ Accumulate ∷ Abs ∷ Floor ∷ Ceiling ∷ Round ∷ RoundHalfToEven ∷ Sum ∷ Avg ∷ Min ∷ Max ∷ String ∷ Concat ∷ StringJoin ∷ StringJoin2 ∷ StringLength ∷ Substring ∷ Substring3 ∷ Contains ∷ StartsWith ∷ EndsWith ∷ SubstringBefore ∷ SubstringAfter ∷ NormalizeSpace ∷ Tokenize ∷ Translate ∷ StringToCodepoints ∷ Serialize ∷ ParseJson ∷ Error ∷ YearFromDate ∷ MonthFromDate ∷ DayFromDate ∷ AddDays ∷ DaysBetween ∷ []
 
 abbrev pub name_of : FnId → List ℕ
 name_of id = (signature id).0

@@ -1,13 +1,9 @@
 -- The text of an item: compact JSON (RFC 8259), with no blank between its tokens.
 use Rattle.std.specs.Prelude.{◌≡◌, ℕ, ◌+◌, ◌/◌, ◌%◌, ◌==◌, nat_lt, ℤ, pos, negsuc, suc, Bool, true, false, List, [], ◌∷◌, ◌++◌, drop, codes, encode_utf8, if◌then◌else◌}
 use Rattle.std.specs.Fmt.{decimal as digits_of, signed_decimal, digit_glyph}
-use Rattle.std.specs.List.{list_all}
-use Rattle.item_tree.specs.Datum.{Datum, null, boolean, integer, decimal, text, array, object, Data, no_values, value, Members, no_members, member}
-
--- the digits without the zeros at their end
-abbrev pub without_last_zeros : List ℕ → List ℕ
-without_last_zeros [] = []
-without_last_zeros (d ∷ ds) = if list_all (λ e. e == 48) (d ∷ ds) then [] else d ∷ without_last_zeros ds
+pub use Rattle.item_tree.specs.Digits.{without_last_zeros}
+use Rattle.item_tree.specs.Dates.{date_text, date_time_text}
+use Rattle.item_tree.specs.Datum.{Datum, null, boolean, integer, decimal, text, date, date_time, array, object, Data, no_values, value, Members, no_members, member}
 
 -- the point and the places behind it, for a number of units of 10^-6 below one
 abbrev pub fraction_text : ℕ → List ℕ
@@ -56,6 +52,8 @@ abbrev mutual
   item_text (integer n) = signed_decimal n
   item_text (decimal m) = decimal_text m
   item_text (text cs) = string_text cs
+  item_text (date d) = string_text (date_text d)
+  item_text (date_time t) = string_text (date_time_text t)
   item_text (array vs) = 91 ∷ values_text vs
   item_text (object ms) = 123 ∷ members_text ms
 
@@ -84,6 +82,8 @@ atom_text null = item_text null
 atom_text (boolean b) = item_text (boolean b)
 atom_text (integer n) = item_text (integer n)
 atom_text (decimal m) = item_text (decimal m)
+atom_text (date d) = date_text d
+atom_text (date_time t) = date_time_text t
 atom_text (array vs) = item_text (array vs)
 atom_text (object ms) = item_text (object ms)
 

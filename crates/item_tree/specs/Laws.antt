@@ -4,7 +4,7 @@ use Rattle.std.specs.Ordering.{ordering_reverse}
 use Rattle.std.specs.declared.cmp.Ordering.TheVariants.{Less, Equal}
 use Rattle.item_tree.specs.declared.functions.FnId.{FnId}
 use Rattle.item_tree.specs.Functions.{name_of, takes_arity, function_named}
-use Rattle.item_tree.specs.Datum.{Datum, null, boolean, integer, decimal, text, array, object, values, array_of_list, object_of_pairs, depth, Sound, AllSound, IsAtomic, is_null}
+use Rattle.item_tree.specs.Datum.{Datum, null, boolean, integer, decimal, text, date, date_time, array, object, values, array_of_list, object_of_pairs, depth, Sound, AllSound, IsAtomic, is_null}
 use Rattle.item_tree.specs.Compare.{atom, compare_atoms, is_equal, same_keys, equal, equal_lists}
 
 -- on the values with this property the test is an equivalence
@@ -36,6 +36,8 @@ pub data Class : Type 0 where
   booleans : Class
   numbers : Class
   strings : Class
+  dates : Class
+  date_times : Class
 
 abbrev pub class_of : Datum → Option Class
 class_of null = Some nulls
@@ -43,6 +45,8 @@ class_of (boolean b) = Some booleans
 class_of (integer n) = Some numbers
 class_of (decimal m) = Some numbers
 class_of (text t) = Some strings
+class_of (date d) = Some dates
+class_of (date_time t) = Some date_times
 class_of (array vs) = None
 class_of (object ms) = None
 
@@ -54,6 +58,7 @@ pub record AtomicsAreOrdered : Type 0 where
   pub exact : (v w : Datum) → compare_atoms v w ≡ Some Equal → atom v ≡ atom w
   pub total : (v w : Datum) (k : Class) → class_of v ≡ Some k → class_of w ≡ Some k → IsSome (compare_atoms v w)
   pub apart : (v w : Datum) → is_null v ≡ false → is_null w ≡ false → class_of v ≢ class_of w → compare_atoms v w ≡ None
+  pub atomic : (v w : Datum) → IsSome (compare_atoms v w) → IsAtomic v × IsAtomic w
   pub lowest : (v : Datum) → IsAtomic v → compare_atoms null v ≡ Some (if is_null v then Equal else Less)
 
 abbrev pub greatest : List ℕ → ℕ

@@ -1,5 +1,7 @@
 pub mod Codes
 pub mod Faults
+pub mod Digits
+pub mod Dates
 pub mod Datum
 pub mod DatumCode
 pub mod Item

@@ -10,7 +10,8 @@ use crate::{Item, NoMemory, Str, Units, Whole};
 use itoa::Buffer;
 use std::alloc::{AllocError, Global};
 
-/// The text of an atomic: for a string the string itself, and else its JSON text.
+/// The text of an atomic: for a string the string itself, for a date or date-time its text without
+/// quotes, and else its JSON text.
 pub fn text_of(alloc: Global, atom: &Item) -> Result<Str, NoMemory>
     requires { IsAtomic (datum atom.now) }
     ensures { IfOk result (λ s. s ≡ atom_text (datum atom.now)) }
@@ -21,6 +22,8 @@ pub fn text_of(alloc: Global, atom: &Item) -> Result<Str, NoMemory>
         Item::Int(n) => whole_str(alloc, *n),
         Item::Dec(m) => decimal_str(alloc, *m),
         Item::Text(t) => t.copy(),
+        Item::Date(day) => Str::of(alloc, day.text().as_str()),
+        Item::DateTime(moment) => Str::of(alloc, moment.text().as_str()),
         Item::Array(_) | Item::Object(_) => unreachable!(),
     }
 }
@@ -112,7 +115,7 @@ fn places_of(digits: &str) -> &str
 }
 
 // How many digits stand before the zeros at the end.
-fn kept_len(digits: &[u8]) -> usize
+pub(crate) fn kept_len(digits: &[u8]) -> usize
     ensures within { result ≤ length digits.now }
     ensures kept { take result digits.now ≡ without_last_zeros digits.now }
 {

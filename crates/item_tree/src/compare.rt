@@ -1,14 +1,14 @@
 ghost use Rattle.std.specs.Prelude.{◌≡◌, Some, option_map};
 ghost use Rattle.item_tree.specs.Datum.{object_of_pairs};
 ghost use Rattle.item_tree.specs.Item.{datum, datums, pair_datums};
-ghost use Rattle.item_tree.specs.Compare.{order_if, atom, nothing, truth, number, string, compare_atoms, same_keys, is_equal, equal, equal_lists};
+ghost use Rattle.item_tree.specs.Compare.{order_if, atom, nothing, truth, number, string, day, moment, compare_atoms, same_keys, is_equal, equal, equal_lists};
 
-use crate::{Item, Pairs, Str};
+use crate::{Day, Item, Moment, Pairs, Str};
 use std::cmp::Ordering;
 
-/// How two atomics compare: numbers by their value, strings by code points, false before true, and
-/// null before all else. `None` exactly where one is no atomic, or where their classes (string,
-/// number, boolean) differ and neither is null.
+/// How two atomics compare: numbers by their value, strings by code points, dates and date-times by
+/// time, false before true, and null before all else. `None` exactly where one is no atomic, or where
+/// their classes (string, number, boolean, date, date-time) differ and neither is null.
 pub fn cmp_atoms(a: &Item, b: &Item) -> Option<Ordering>
     ensures { result ≡ compare_atoms (datum a.now) (datum b.now) }
 {
@@ -18,6 +18,8 @@ pub fn cmp_atoms(a: &Item, b: &Item) -> Option<Ordering>
         Item::Int(n) => number_cmp(n.units(), b),
         Item::Dec(n) => number_cmp(n.get(), b),
         Item::Text(x) => text_cmp(x, b),
+        Item::Date(x) => date_cmp(x, b),
+        Item::DateTime(x) => date_time_cmp(x, b),
         Item::Array(_) | Item::Object(_) => None,
     }
 }
@@ -66,9 +68,13 @@ fn equal_items(a: &Item, b: &Item) -> bool
             Item::Object(qs) => equal_pairs(ps.as_slice(), qs),
             _ => false,
         },
-        Item::Null | Item::Bool(_) | Item::Int(_) | Item::Dec(_) | Item::Text(_) => {
-            equal_atoms(a, b)
-        }
+        Item::Null
+        | Item::Bool(_)
+        | Item::Int(_)
+        | Item::Dec(_)
+        | Item::Text(_)
+        | Item::Date(_)
+        | Item::DateTime(_) => equal_atoms(a, b),
     }
 }
 
@@ -103,8 +109,8 @@ fn null_cmp(b: &Item) -> Option<Ordering>
 {
     match b {
         Item::Null => Some(Ordering::Equal),
-        Item::Bool(_) | Item::Int(_) | Item::Dec(_) | Item::Text(_) => Some(Ordering::Less),
         Item::Array(_) | Item::Object(_) => None,
+        _ => Some(Ordering::Less),
     }
 }
 
@@ -114,7 +120,7 @@ fn bool_cmp(x: bool, b: &Item) -> Option<Ordering>
     match b {
         Item::Null => Some(Ordering::Greater),
         Item::Bool(y) => Some(x.cmp(y)),
-        Item::Int(_) | Item::Dec(_) | Item::Text(_) | Item::Array(_) | Item::Object(_) => None,
+        _ => None,
     }
 }
 
@@ -126,7 +132,7 @@ fn number_cmp(m: i128, b: &Item) -> Option<Ordering>
         Item::Null => Some(Ordering::Greater),
         Item::Int(n) => Some(m.cmp(&n.units())),
         Item::Dec(n) => Some(m.cmp(&n.get())),
-        Item::Bool(_) | Item::Text(_) | Item::Array(_) | Item::Object(_) => None,
+        _ => None,
     }
 }
 
@@ -136,6 +142,26 @@ fn text_cmp(x: &Str, b: &Item) -> Option<Ordering>
     match b {
         Item::Null => Some(Ordering::Greater),
         Item::Text(y) => Some(x.compare(y)),
-        Item::Bool(_) | Item::Int(_) | Item::Dec(_) | Item::Array(_) | Item::Object(_) => None,
+        _ => None,
+    }
+}
+
+fn date_cmp(x: &Day, b: &Item) -> Option<Ordering>
+    ensures { result ≡ order_if (Some (day x.now)) (atom (datum b.now)) }
+{
+    match b {
+        Item::Null => Some(Ordering::Greater),
+        Item::Date(y) => Some(x.cmp(y)),
+        _ => None,
+    }
+}
+
+fn date_time_cmp(x: &Moment, b: &Item) -> Option<Ordering>
+    ensures { result ≡ order_if (Some (moment x.now)) (atom (datum b.now)) }
+{
+    match b {
+        Item::Null => Some(Ordering::Greater),
+        Item::DateTime(y) => Some(x.cmp(y)),
+        _ => None,
     }
 }

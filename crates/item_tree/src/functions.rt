@@ -116,6 +116,16 @@ pub enum FnId {
     ParseJson,
     /// `error`: no value: the error of the query's own.
     Error,
+    /// `year-from-date`: the year of a date.
+    YearFromDate,
+    /// `month-from-date`: the month of a date.
+    MonthFromDate,
+    /// `day-from-date`: the day of the month of a date.
+    DayFromDate,
+    /// `add-days`: the date so many days after a date.
+    AddDays,
+    /// `days-between`: the number of days from a date to another.
+    DaysBetween,
 }
 
 // How many arguments a function takes.
@@ -162,7 +172,7 @@ impl FnId {
     }
 
     // All of them, in the order of the table.
-    const ALL: [FnId; 55] = [
+    const ALL: [FnId; 60] = [
         FnId::Count,
         FnId::Empty,
         FnId::Exists,
@@ -218,6 +228,11 @@ impl FnId {
         FnId::Serialize,
         FnId::ParseJson,
         FnId::Error,
+        FnId::YearFromDate,
+        FnId::MonthFromDate,
+        FnId::DayFromDate,
+        FnId::AddDays,
+        FnId::DaysBetween,
     ];
 
     // The table: the name, and how many arguments there are.
@@ -282,6 +297,11 @@ impl FnId {
             FnId::Serialize => ("serialize", Exactly(1)),
             FnId::ParseJson => ("parse-json", Exactly(1)),
             FnId::Error => ("error", Exactly(0)),
+            FnId::YearFromDate => ("year-from-date", Exactly(1)),
+            FnId::MonthFromDate => ("month-from-date", Exactly(1)),
+            FnId::DayFromDate => ("day-from-date", Exactly(1)),
+            FnId::AddDays => ("add-days", Exactly(2)),
+            FnId::DaysBetween => ("days-between", Exactly(2)),
         }
     }
 }

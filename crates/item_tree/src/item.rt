@@ -3,7 +3,7 @@ mod find;
 mod make;
 
 use crate::item::find::{place_among, value_at};
-use crate::{NoMemory, Str, Units, Whole};
+use crate::{Day, Moment, NoMemory, Str, Units, Whole};
 pub use make::{array_of, object_of, object_of_distinct};
 use std::alloc::Global;
 use std::collections::HashMap;
@@ -20,6 +20,8 @@ pub enum Item {
     Int(Whole),
     Dec(Units),
     Text(Str),
+    Date(Day),
+    DateTime(Moment),
     Array(Items),
     Object(Pairs),
 }
@@ -194,6 +196,14 @@ impl Item {
             }
             Item::Text(t) => {
                 let _text = t.as_str();
+                0
+            }
+            Item::Date(day) => {
+                let _year = day.year();
+                0
+            }
+            Item::DateTime(moment) => {
+                let _day = moment.day();
                 0
             }
             Item::Array(items) => items.depth,

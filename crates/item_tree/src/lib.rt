@@ -4,6 +4,8 @@
 mod atom_text;
 mod code;
 mod compare;
+mod date;
+mod date_text;
 mod fault;
 mod functions;
 mod held;
@@ -16,6 +18,8 @@ mod truth;
 pub use atom_text::{push_decimal, text_of};
 pub use code::Code;
 pub use compare::{cmp_atoms, deep_equal, same_key};
+pub use date::{Day, Moment};
+pub use date_text::DateText;
 pub use fault::{Fault, MakeFault, NoMemory, OpFault, Spot};
 pub use functions::FnId;
 pub use item::{Item, Items, Pairs, array_of, object_of, object_of_distinct};

@@ -1,30 +1,31 @@
 ghost use Rattle.std.specs.Prelude.{◌≡◌};
 ghost use Rattle.item_tree.specs.Item.{datum, datums};
-ghost use Rattle.item_tree.specs.Truth.{is_true, boolean_value};
+ghost use Rattle.item_tree.specs.Truth.{value_of_one, boolean_value};
 
 use crate::{Code, Item};
 
 /// The effective boolean value of a sequence. The empty sequence is false, an array or an object is
-/// true, and two or more items have none.
+/// true. Two or more items have none, and one date or date-time has none.
 pub fn ebv(s: &[Item]) -> Result<bool, Code>
     ensures { result ≡ boolean_value (datums s.now) }
 {
     match s {
         [] => Ok(false),
-        [x] => Ok(is_true(x)),
+        [x] => value_of_one(x),
         [_, _, ..] => Err(Code::FORG0006),
     }
 }
 
-fn is_true(x: &Item) -> bool
-    ensures { result ≡ is_true (datum x.now) }
+fn value_of_one(x: &Item) -> Result<bool, Code>
+    ensures { result ≡ value_of_one (datum x.now) }
 {
     match x {
-        Item::Null => false,
-        Item::Bool(b) => *b,
-        Item::Int(n) => n.get() != 0,
-        Item::Dec(m) => m.get() != 0,
-        Item::Text(t) => !t.as_str().is_empty(),
-        Item::Array(_) | Item::Object(_) => true,
+        Item::Null => Ok(false),
+        Item::Bool(b) => Ok(*b),
+        Item::Int(n) => Ok(n.get() != 0),
+        Item::Dec(m) => Ok(m.get() != 0),
+        Item::Text(t) => Ok(!t.as_str().is_empty()),
+        Item::Date(_) | Item::DateTime(_) => Err(Code::FORG0006),
+        Item::Array(_) | Item::Object(_) => Ok(true),
     }
 }

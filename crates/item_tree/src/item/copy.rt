@@ -93,6 +93,8 @@ impl Clone for Item {
             Item::Int(n) => Ok(Item::Int(*n)),
             Item::Dec(m) => Ok(Item::Dec(*m)),
             Item::Text(t) => Ok(Item::Text(t.clone()?)),
+            Item::Date(day) => Ok(Item::Date(*day)),
+            Item::DateTime(moment) => Ok(Item::DateTime(*moment)),
             Item::Array(items) => Ok(Item::Array(items.clone()?)),
             Item::Object(pairs) => Ok(Item::Object(pairs.clone()?)),
         }

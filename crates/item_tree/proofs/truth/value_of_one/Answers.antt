@@ -1,5 +1,5 @@
 use Rattle.item_tree.proofs.Emptiness.{text_true}
-use Rattle.item_tree.proofs.truth.is_true.Goals as goal
+use Rattle.item_tree.proofs.truth.value_of_one.Goals as goal
 
 pub returns-in-Text : goal.returns-in-Text
 returns-in-Text c =
