@@ -5,7 +5,9 @@ use Rattle.std.proofs.Common.{sym, ◌∙◌, ap, subst, inl, inr, append_assoc,
 use Rattle.std.specs.Char.{encode_utf8}
 use Rattle.std.proofs.lemmas.Bool.{and_parts, cond_both, eqb-true}
 use Rattle.item_tree.specs.JsonString.{Piece, byte, unit, is_raw, short_escape, code_unit, is_high_half, is_low_half, lone_character, paired_character, content}
-use Rattle.json_text.specs.Scan.{Part, plain, after_backslash, after_u, put_front, byte_front, unit_front, pieces_at, spell, string_at, after_bytes, digits_unit, low_half_of, low_half_at}
+use Rattle.json_text.specs.Scan.{Part, plain, after_backslash, after_u, put_front, byte_front, unit_front, pieces_at, spell, string_at, after_bytes}
+use Rattle.json_text.specs.declared.escapes.Spelled.TheVariants.{Byte}
+use Rattle.json_text.specs.Escapes.{bytes_of, Unit16, digits_unit, low_half_of, low_half_at, other_half, unit_escape, long_escape, Escape, escape_of}
 use Rattle.json_text.proofs.StringLemmas.{raw_facts, short_is_no_u}
 
 -- ---- bytes in front
@@ -184,3 +186,36 @@ pub pair_spelled : (l : List ℕ) (u : ℕ) (r : List ℕ) (w : ℕ) (q : List �
 pair_spelled l u r w q e h k =
     let low : IsLow r (Some (w, q)) = subst (IsLow r) k (low_is r) in
     unit_is l ∙ ap (λ p. spell (with_unit p)) e ∙ ap (λ x. spell (put_front (unit u) x)) low.0 ∙ paired u w (pieces_at plain q) h low.1
+
+-- ---- what an escape spells, in the midst of a string
+
+abbrev pub Spells : List ℕ → Escape → Type 0
+Spells l None = string_at (92 ∷ l) ≡ None
+Spells l (Some p) = string_at (92 ∷ l) ≡ after_bytes (bytes_of p.0) (string_at p.1)
+
+no_half : (b : Bool) (o : Unit16) → cond b o None ≡ None → (b ≡ false) ⊎ (o ≡ None)
+no_half true o h = inr h
+no_half false o h = inl refl
+
+a_half : (b : Bool) (o : Unit16) (p : ℕ × List ℕ) → cond b o None ≡ Some p → (b ≡ true) × (o ≡ Some p)
+a_half true o p h = (refl, h)
+a_half false o p h = absurd cc
+
+unit_spells : (l : List ℕ) (u : ℕ) (r : List ℕ) (o : Unit16) → digits_unit l ≡ Some (u, r) → other_half u r ≡ o → Spells (117 ∷ l) (unit_escape u r o)
+unit_spells l u r None e h = lone_spelled l u r e (no_half (is_high_half u) (low_half_at r) h)
+unit_spells l u r (Some p) e h = let k = a_half (is_high_half u) (low_half_at r) p h in pair_spelled l u r p.0 p.1 e k.0 k.1
+
+long_spells : (l : List ℕ) (o : Unit16) → digits_unit l ≡ o → Spells (117 ∷ l) (long_escape o)
+long_spells l None e = no_unit_spelled l e
+long_spells l (Some p) e = unit_spells l p.0 p.1 (other_half p.0 p.1) e refl
+
+short_spells : (b : ℕ) (l : List ℕ) (o : Option ℕ) → (b == 117) ≡ false → short_escape b ≡ o → Spells (b ∷ l) (option_map (λ c. (Byte c, l)) o)
+short_spells b l None n e = no_escape_spelled b l n e
+short_spells b l (Some c) n e = short_spelled b c l e
+
+pub escape_spells : (l : List ℕ) → Spells l (escape_of l)
+escape_spells [] = cut_escape_spelled
+escape_spells (b ∷ l) =
+    cond_both (b == 117) _ _ (Spells (b ∷ l))
+    (λ e. subst (λ y. Spells (y ∷ l) (long_escape (digits_unit l))) (sym (eqb-true b 117 e)) (long_spells l (digits_unit l) refl))
+    (λ n. short_spells b l (short_escape b) n refl)

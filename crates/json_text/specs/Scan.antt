@@ -1,8 +1,8 @@
 -- How a reader takes a number or a string from the front of a text. Nothing here is part of what a text is: `laws` says that it is the same.
-use Rattle.std.specs.Prelude.{ℕ, Bool, true, false, ◌||◌, ◌&&◌, not, ◌==◌, nat_lt, List, [], ◌∷◌, ◌++◌, length, Option, Some, None, option_map, if◌then◌else◌}
+use Rattle.std.specs.Prelude.{ℕ, Bool, true, false, ◌||◌, not, ◌==◌, nat_lt, List, [], ◌∷◌, ◌++◌, length, Option, Some, None, option_map, if◌then◌else◌}
 use Rattle.std.specs.Char.{is_ascii_digit}
 use Rattle.num_fixed.specs.Numeral.{Sign, none, plus, minus, Numeral}
-use Rattle.item_tree.specs.JsonString.{Piece, byte, unit, is_raw, short_escape, code_unit, content, is_low_half}
+use Rattle.item_tree.specs.JsonString.{Piece, byte, unit, is_raw, short_escape, code_unit, content}
 
 -- something and the rest behind it, if it is there
 abbrev pub Part : Type 0 → Type 0
@@ -96,21 +96,3 @@ string_at l = spell (pieces_at plain l)
 
 abbrev pub after_bytes : List ℕ → Part (List ℕ) → Part (List ℕ)
 after_bytes front r = option_map (λ q. (front ++ q.0, q.1)) r
-
--- the code unit of four hexadecimal digits at the front, and what is behind them
-abbrev pub digits_unit : List ℕ → Part ℕ
-digits_unit (a ∷ b ∷ c ∷ d ∷ r) = option_map (λ u. (u, r)) (code_unit a b c d)
-digits_unit l = None
-
--- the code unit of an escape at the front, and what is behind it
-abbrev pub escaped_unit : List ℕ → Part ℕ
-escaped_unit (s ∷ t ∷ r) = if s == 92 && t == 117 then digits_unit r else None
-escaped_unit l = None
-
--- the low half of a surrogate pair at the front, and what is behind it
-abbrev pub low_half_of : Part ℕ → Part ℕ
-low_half_of None = None
-low_half_of (Some p) = if is_low_half p.0 then Some p else None
-
-abbrev pub low_half_at : List ℕ → Part ℕ
-low_half_at l = low_half_of (escaped_unit l)

@@ -1,10 +1,10 @@
 //! The escapes in a string.
 
-ghost use Rattle.std.specs.Prelude.{◌≡◌, ◌⊎◌, ◌<◌, ◌≤◌, ◌++◌, ℕ, true, false, length, List, ◌∷◌, Some, None, IfSome, IfNone, MatchOption, OnOk, if◌then◌else◌};
+ghost use Rattle.std.specs.Prelude.{◌≡◌, ◌<◌, ◌≤◌, ◌++◌, true, suc, length, ◌∷◌, Some, None, IfSome, IfNone, OnOk, OnErr, option_map, if◌then◌else◌};
 ghost use Rattle.std.specs.Char.{IsScalar, digit_value, is_digit, encode_utf8};
 ghost use Rattle.item_tree.specs.JsonString.{is_raw, short_escape, code_unit, is_high_half, is_low_half, lone_character, paired_character};
-ghost use Rattle.json_text.specs.Scan.{string_at, after_bytes, digits_unit, low_half_at};
-ghost use Rattle.json_text.specs.Escapes.{bytes_of, IsSound, Begins};
+ghost use Rattle.json_text.specs.Scan.{string_at};
+ghost use Rattle.json_text.specs.Escapes.{bytes_of, IsSound, Begins, digits_unit, low_half_at, other_half, unit_escape, long_escape, escape_of};
 
 use std::alloc::AllocError;
 
@@ -59,7 +59,7 @@ fn code_unit(a: u8, b: u8, c: u8, d: u8) -> Option<u32>
 
 /// The code unit of four hexadecimal digits at the front, and what is behind them.
 fn digits_unit(text: &[u8]) -> Option<(u32, &[u8])>
-    ensures value { MatchOption result (digits_unit text.now ≡ None) (λ x. digits_unit text.now ≡ Some (x.0, x.1.now)) }
+    ensures value { option_map (λ x. (x.0, x.1.now)) result ≡ digits_unit text.now }
     ensures within { IfSome result (λ x. (x.0 < 65536) × (length x.1.now < length text.now)) }
 {
     match text {
@@ -85,7 +85,7 @@ fn is_low_half(unit: u32) -> bool
 
 /// The escape of a low half at the front, and what is behind it.
 fn low_half_at(text: &[u8]) -> Option<(u32, &[u8])>
-    ensures value { MatchOption result (low_half_at text.now ≡ None) (λ x. low_half_at text.now ≡ Some (x.0, x.1.now)) }
+    ensures value { option_map (λ x. (x.0, x.1.now)) result ≡ low_half_at text.now }
     ensures within { IfSome result (λ x. (is_low_half x.0 ≡ true) × (length x.1.now < length text.now)) }
 {
     let [b'\\', b'u', digits @ ..] = text else {
@@ -100,7 +100,7 @@ fn low_half_at(text: &[u8]) -> Option<(u32, &[u8])>
 /// The character of a unit that is in no pair.
 fn lone_character(unit: u32) -> Spelled
     requires { unit < 65536 }
-    ensures value { bytes_of result ≡ encode_utf8 (lone_character unit) }
+    ensures value { result ≡ Spelled.Char (lone_character unit) }
     ensures sound { IsSound result }
 {
     if is_high_half(unit) || is_low_half(unit) {
@@ -114,16 +114,18 @@ fn lone_character(unit: u32) -> Spelled
 fn paired_character(high: u32, low: u32) -> Spelled
     requires high { is_high_half high ≡ true }
     requires low { is_low_half low ≡ true }
-    ensures value { bytes_of result ≡ encode_utf8 (paired_character high low) }
+    ensures value { result ≡ Spelled.Char (paired_character high low) }
     ensures sound { IsSound result }
 {
     Spelled::Char(0x10000 + high.saturating_sub(0xd800) * 1024 + low.saturating_sub(0xdc00))
 }
 
 /// The low half of a pair, where the unit before it is a high half.
-fn low_behind(unit: u32, rest: &[u8]) -> Option<(u32, &[u8])>
-    ensures some { IfSome result (λ x. (is_high_half unit ≡ true) × (low_half_at rest.now ≡ Some (x.0, x.1.now)) × (is_low_half x.0 ≡ true) × (length x.1.now < length rest.now)) }
-    ensures none { IfNone result ((is_high_half unit ≡ false) ⊎ (low_half_at rest.now ≡ None)) }
+fn other_half(unit: u32, rest: &[u8]) -> Option<(u32, &[u8])>
+    ensures value { option_map (λ x. (x.0, x.1.now)) result ≡ other_half unit rest.now }
+    ensures high { IfSome result (λ x. is_high_half unit ≡ true) }
+    ensures low { IfSome result (λ x. is_low_half x.0 ≡ true) }
+    ensures within { IfSome result (λ x. length x.1.now < length rest.now) }
 {
     if is_high_half(unit) {
         low_half_at(rest)
@@ -135,11 +137,11 @@ fn low_behind(unit: u32, rest: &[u8]) -> Option<(u32, &[u8])>
 /// The character of a unit, and what is behind it.
 fn unit_character(unit: u32, rest: &[u8]) -> (Spelled, &[u8])
     requires { unit < 65536 }
-    ensures value { (digits : List ℕ) → digits_unit digits ≡ Some (unit, rest.now) → string_at (92 ∷ 117 ∷ digits) ≡ after_bytes (bytes_of result.0) (string_at result.1.now) }
+    ensures value { Some (result.0, result.1.now) ≡ unit_escape unit rest.now (other_half unit rest.now) }
     ensures within { length result.1.now ≤ length rest.now }
     ensures sound { IsSound result.0 }
 {
-    match low_behind(unit, rest) {
+    match other_half(unit, rest) {
         Some((low, behind)) => (paired_character(unit, low), behind),
         None => (lone_character(unit), rest),
     }
@@ -147,8 +149,9 @@ fn unit_character(unit: u32, rest: &[u8]) -> (Spelled, &[u8])
 
 /// What an escape with these digits stands for, and what is behind it.
 fn long_escape(digits: &[u8]) -> Option<(Spelled, &[u8])>
-    ensures some { IfSome result (λ x. Begins (92 ∷ 117 ∷ digits.now) x.0 x.1.now) }
-    ensures none { IfNone result (string_at (92 ∷ 117 ∷ digits.now) ≡ None) }
+    ensures value { option_map (λ x. (x.0, x.1.now)) result ≡ long_escape (digits_unit digits.now) }
+    ensures within { IfSome result (λ x. length x.1.now < length digits.now) }
+    ensures sound { IfSome result (λ x. IsSound x.0) }
 {
     match digits_unit(digits) {
         Some((unit, rest)) => Some(unit_character(unit, rest)),
@@ -158,8 +161,9 @@ fn long_escape(digits: &[u8]) -> Option<(Spelled, &[u8])>
 
 /// What a backslash and this byte stand for, and what is behind them.
 fn escape_from(first: u8, rest: &[u8]) -> Option<(Spelled, &[u8])>
-    ensures some { IfSome result (λ x. Begins (92 ∷ first ∷ rest.now) x.0 x.1.now) }
-    ensures none { IfNone result (string_at (92 ∷ first ∷ rest.now) ≡ None) }
+    ensures value { option_map (λ x. (x.0, x.1.now)) result ≡ escape_of (first ∷ rest.now) }
+    ensures within { IfSome result (λ x. length x.1.now ≤ suc (length rest.now)) }
+    ensures sound { IfSome result (λ x. IsSound x.0) }
 {
     if first == b'u' {
         return long_escape(rest);
@@ -173,6 +177,8 @@ fn escape_from(first: u8, rest: &[u8]) -> Option<(Spelled, &[u8])>
 /// What an escape stands for, and what is behind it, from what is behind its backslash; none where no
 /// escape is there. Half a surrogate pair without the other half is U+FFFD.
 pub fn escape_at(text: &[u8]) -> Option<(Spelled, &[u8])>
+    ensures value { option_map (λ x. (x.0, x.1.now)) result ≡ escape_of text.now }
+    // So in a string: what is behind is shorter, and what is spelled is a byte or a character.
     ensures some { IfSome result (λ x. Begins (92 ∷ text.now) x.0 x.1.now) }
     ensures none { IfNone result (string_at (92 ∷ text.now) ≡ None) }
 {
@@ -182,10 +188,11 @@ pub fn escape_at(text: &[u8]) -> Option<(Spelled, &[u8])>
     }
 }
 
-/// Appends a character.
+/// Appends a character, or nothing.
 fn push_char(out: &mut Vec<u8>, code: u32) -> Result<(), AllocError>
     requires { IsScalar code }
-    ensures { OnOk result (out.new.items ≡ out.old.items ++ encode_utf8 code) }
+    ensures ok { OnOk result (out.new.items ≡ out.old.items ++ encode_utf8 code) }
+    ensures err { OnErr result (out.new.items ≡ out.old.items) }
 {
     if let Some(c) = char::from_u32(code) {
         let mut room = [0u8; 4];
@@ -195,10 +202,11 @@ fn push_char(out: &mut Vec<u8>, code: u32) -> Result<(), AllocError>
     Ok(())
 }
 
-/// Appends what is spelled, in UTF-8.
+/// Appends what is spelled, in UTF-8; for want of memory nothing of it.
 pub fn push_spelled(out: &mut Vec<u8>, spelled: Spelled) -> Result<(), AllocError>
     requires { IsSound spelled }
-    ensures { OnOk result (out.new.items ≡ out.old.items ++ bytes_of spelled) }
+    ensures ok { OnOk result (out.new.items ≡ out.old.items ++ bytes_of spelled) }
+    ensures err { OnErr result (out.new.items ≡ out.old.items) }
 {
     match spelled {
         Spelled::Byte(b) => {
