@@ -1,14 +1,20 @@
-ghost use Rattle.std.specs.Prelude.{None};
+ghost use Rattle.std.specs.Prelude.{◌≤◌, None, IfOk, length};
 
+use crate::kept::{Kept, KeptFile, read_whole};
 use outside::{Failed, InputFile, Inputs, OpenFault};
+use std::alloc::Global;
 use std::fs::{File, Files};
 use std::os::unix::fs::FileExt;
 use std::{fs, io};
 
 /// The files of the system. They count their faults and tell no bytes.
+///
+/// What tells no length, as a pipe or a device, can be read only once. So it is read whole where it
+/// is first opened, and its bytes are kept for every later open of the same name.
 #[derive(Drop)]
 pub struct FileInputs<'a, R> {
     rt: &'a R,
+    kept: Kept,
     faults: u64,
     misses: u64,
     opened: u64,
@@ -18,15 +24,23 @@ pub struct FileInputs<'a, R> {
 /// An open file of the system.
 #[derive(Drop)]
 pub struct FileInput {
-    file: File,
+    source: Source,
     faults: u64,
 }
 
+// Where the bytes of an open file come from.
+#[derive(Drop)]
+enum Source {
+    System(File),
+    Kept(KeptFile),
+}
+
 impl<'a, R> FileInputs<'a, R> {
-    /// All counts begin at 0.
-    pub fn new(rt: &'a R) -> FileInputs<'a, R> {
+    /// All counts begin at 0, and nothing is kept.
+    pub fn new(rt: &'a R, alloc: Global) -> FileInputs<'a, R> {
         FileInputs {
             rt,
+            kept: Kept::new(alloc),
             faults: 0,
             misses: 0,
             opened: 0,
@@ -35,32 +49,73 @@ impl<'a, R> FileInputs<'a, R> {
     }
 }
 
+// A file of the system that tells a length is read where it stands, and any other is read whole.
+fn open_source<R: Files<File = File>>(
+    rt: &R,
+    kept: &mut Kept,
+    name: &str,
+) -> Result<Source, OpenFault> {
+    if let Some(file) = kept.find(name)? {
+        return Ok(Source::Kept(file));
+    }
+    let mut file = match fs::open(rt, name) {
+        Ok(file) => file,
+        Err(fault) if fault.kind() == io::ErrorKind::NotFound => return Err(OpenFault::Missing),
+        Err(_) => return Err(OpenFault::Failed),
+    };
+    let Ok(metadata) = file.metadata() else {
+        return Err(OpenFault::Failed);
+    };
+    if metadata.is_file() && metadata.len() > 0 {
+        return Ok(Source::System(file));
+    }
+    let bytes = read_whole(kept.alloc(), &mut file)?;
+    let file = kept.keep(name, bytes)?;
+    Ok(Source::Kept(file))
+}
+
+// A signal may interrupt a read, which is then made again.
+fn read_again(file: &File, at: u64, into: &mut [u8]) -> Result<usize, Failed>
+    ensures { IfOk result (λ n. n ≤ length into.old) }
+{
+    'reading: for _ in 0..u64::MAX {
+        match file.read_at(into, at) {
+            Err(fault) if fault.kind() == io::ErrorKind::Interrupted => {}
+            Ok(count) => return Ok(count),
+            Err(_) => break,
+        }
+    }
+    Err(Failed)
+}
+
 impl InputFile for FileInput {
     ghost held = { λ _. None };
 
     ghost faults = { λ f. f.faults };
 
     fn len(&mut self) -> Result<u64, Failed> {
-        match self.file.metadata() {
-            Ok(metadata) => Ok(metadata.len()),
-            Err(_) => {
-                self.faults = self.faults.saturating_add(1);
-                Err(Failed)
-            }
+        let length = match &mut self.source {
+            Source::Kept(file) => file.len(),
+            Source::System(file) => match file.metadata() {
+                Ok(metadata) => Ok(metadata.len()),
+                Err(_) => Err(Failed),
+            },
+        };
+        if length.is_err() {
+            self.faults = self.faults.saturating_add(1);
         }
+        length
     }
 
     fn read_at(&mut self, at: u64, into: &mut [u8]) -> Result<usize, Failed> {
-        // A signal may interrupt a read, which is then made again.
-        'reading: for _ in 0..u64::MAX {
-            match self.file.read_at(into, at) {
-                Err(fault) if fault.kind() == io::ErrorKind::Interrupted => {}
-                Ok(count) => return Ok(count),
-                Err(_) => break,
-            }
+        let count = match &mut self.source {
+            Source::Kept(file) => file.read_at(at, into),
+            Source::System(file) => read_again(file, at, into),
+        };
+        if count.is_err() {
+            self.faults = self.faults.saturating_add(1);
         }
-        self.faults = self.faults.saturating_add(1);
-        Err(Failed)
+        count
     }
 }
 
@@ -78,18 +133,18 @@ impl<R: Files<File = File>> Inputs for FileInputs<'_, R> {
     ghost closed = { λ s. s.closed };
 
     fn open_file(&mut self, name: &str) -> Result<FileInput, OpenFault> {
-        match fs::open(self.rt, name) {
-            Ok(file) => {
+        match open_source(self.rt, &mut self.kept, name) {
+            Ok(source) => {
                 self.opened = self.opened.saturating_add(1);
-                Ok(FileInput { file, faults: 0 })
+                Ok(FileInput { source, faults: 0 })
             }
-            Err(fault) if fault.kind() == io::ErrorKind::NotFound => {
-                self.misses = self.misses.saturating_add(1);
-                Err(OpenFault::Missing)
-            }
-            Err(_) => {
-                self.faults = self.faults.saturating_add(1);
-                Err(OpenFault::Failed)
+            Err(fault) => {
+                match fault {
+                    OpenFault::Missing => self.misses = self.misses.saturating_add(1),
+                    OpenFault::Failed => self.faults = self.faults.saturating_add(1),
+                    OpenFault::NoMemory => {}
+                }
+                Err(fault)
             }
         }
     }

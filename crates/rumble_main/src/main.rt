@@ -1,10 +1,13 @@
 //! The program: `rumble` over real files and the standard streams.
 #![tactic(auto)]
 
+mod exits;
 mod inputs;
+mod kept;
 mod sink;
 mod words;
 
+use crate::exits::exit_code;
 use crate::inputs::FileInputs;
 use crate::sink::StdSink;
 use crate::words::{WordFault, words};
@@ -12,14 +15,9 @@ use outside::{FreeGate, write_all};
 use rumble_run::{Status, rumble};
 use std::process::ExitCode;
 
-// The status as a number, which is its place in the table of statuses.
-fn exit_code(status: Status) -> ExitCode {
-    ExitCode::from(status as u8)
-}
-
 fn main(rt: HostRuntime) -> ExitCode {
     let alloc = rt.alloc();
-    let mut inputs = FileInputs::new(&rt);
+    let mut inputs = FileInputs::new(&rt, alloc);
     let mut out = StdSink::new(rt.stdout());
     let mut err = StdSink::new(rt.stderr());
     let words = match words(&rt, alloc) {
