@@ -44,22 +44,51 @@ fn compares_all_pairs(rt: HostRuntime) -> Result<(), Fail> {
 
 #[test]
 fn keeps_numbers(rt: HostRuntime) {
+    assert!(rt; Whole::new(-2) == Whole::new(-2));
+    assert!(rt; Units::new(1) != Units::new(-1));
     assert_eq!(rt; Whole::new(-2).get(), -2);
     assert_eq!(rt; Whole::new(2).units(), 2_000_000);
     assert_eq!(rt; Units::new(-1_500_000).get(), -1_500_000);
 }
 
+// Texts in the order of their code points, some of which stand in the string and some do not.
 #[test]
-fn compares_strings(rt: HostRuntime) -> Result<(), Fail> {
+fn orders_strings(rt: HostRuntime) -> Result<(), Fail> {
+    let alloc = rt.alloc();
+    let texts = [
+        "",
+        "\u{0}",
+        "\u{0}\u{0}",
+        "a",
+        "a\u{0}",
+        "abcdefgh",
+        "abcdefghijklmn",
+        "abcdefghijklmn\u{0}",
+        "abcdefghijklmno",
+        "abcdefghz",
+        "b",
+        "\u{ffff}",
+        "\u{10000}",
+    ];
+    for (i, a) in texts.iter().enumerate() {
+        let a = Str::of(alloc, a)?;
+        for (j, b) in texts.iter().enumerate() {
+            let b = Str::of(alloc, b)?;
+            assert_eq!(rt; a == b, i == j, "{i} {j}");
+            assert_eq!(rt; a.cmp(&b), i.cmp(&j), "{i} {j}");
+            assert_eq!(rt; a < b, i < j, "{i} {j}");
+        }
+    }
+    Ok(())
+}
+
+#[test]
+fn finds_strings_in_a_table(rt: HostRuntime) -> Result<(), Fail> {
     let alloc = rt.alloc();
     let key = Str::of(alloc, "k")?;
-    let other = Str::of(alloc, "l")?;
-    assert!(rt; key == key.copy()?);
-    assert!(rt; key != other);
-    assert_eq!(rt; key.compare(&other), Ordering::Less);
     let mut table = HashMap::new(alloc);
     assert_eq!(rt; table.insert(key.copy()?, 1)?, None);
-    assert_eq!(rt; table.insert(other, 2)?, None);
+    assert_eq!(rt; table.insert(Str::of(alloc, "l")?, 2)?, None);
     assert_eq!(rt; table.get(&key).copied(), Some(1));
     Ok(())
 }

@@ -6,7 +6,7 @@ use Rattle.std.specs.List.{list_all}
 use Rattle.std.specs.Str.{IsAscii, chars}
 use Rattle.std.proofs.lemmas.Fmt.{IsAscii-decimal, IsAscii-decimal_wide}
 use Rattle.std.proofs.lemmas.Int.{ints}
-use Rattle.std.proofs.lemmas.Str.{IsAscii-append, IsAscii-drop, chars-IsAscii}
+use Rattle.std.proofs.lemmas.Str.{IsAscii-append, IsAscii-drop}
 use Rattle.std.proofs.lemmas.Str.Ascii.{IsAscii-nil, IsAscii-cons}
 use Rattle.item_tree.specs.Datum.{IsUnits}
 use Rattle.item_tree.specs.Digits.{last_digits}
@@ -35,12 +35,9 @@ fraction_ascii units l = by (units == 0) (IsAscii-cons 46 _ (omega arith) (last_
 units_ascii : (units : ℕ) → units < 10 ^ 26 → IsAscii (units_text units)
 units_ascii units l = IsAscii-append (decimal (units / 1000000)) (fraction_text (units % 1000000)) (IsAscii-decimal_wide (units / 1000000) (omega arith)) (fraction_ascii (units % 1000000) (omega arith))
 
-decimal_ascii : (m : ℤ) → IsUnits m → IsAscii (decimal_text m)
+pub decimal_ascii : (m : ℤ) → IsUnits m → IsAscii (decimal_text m)
 decimal_ascii (pos units) h = units_ascii units (omega (arith, ints))
 decimal_ascii (negsuc units) h = IsAscii-cons 45 (units_text (suc units)) (omega arith) (units_ascii (suc units) (omega (arith, ints)))
-
-pub chars_decimal : (m : ℤ) → IsUnits m → chars (decimal_text m) ≡ decimal_text m
-chars_decimal m h = chars-IsAscii (decimal_text m) (decimal_ascii m h)
 
 pub chars_null : chars (codes "null") ≡ codes "null"
 unfolding chars

@@ -11,6 +11,8 @@ pub mod Members
 pub mod DeepEquality
 pub mod AsciiTexts
 pub mod FunctionNames
+mod DecimalDigits
+mod ShortTexts
 mod StringRows
 mod TextRows
 mod DateOrder

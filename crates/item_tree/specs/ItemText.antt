@@ -1,5 +1,5 @@
 -- The text of an item: compact JSON (RFC 8259), with no blank between its tokens.
-use Rattle.std.specs.Prelude.{◌≡◌, ℕ, ◌+◌, ◌/◌, ◌%◌, ◌==◌, nat_lt, ℤ, pos, negsuc, suc, Bool, true, false, List, [], ◌∷◌, ◌++◌, drop, codes, encode_utf8, if◌then◌else◌}
+use Rattle.std.specs.Prelude.{ℕ, ◌+◌, ◌/◌, ◌%◌, ◌==◌, nat_lt, ℤ, pos, negsuc, suc, Bool, true, false, List, [], ◌∷◌, ◌++◌, drop, codes, encode_utf8, if◌then◌else◌}
 use Rattle.std.specs.Fmt.{decimal as digits_of, signed_decimal, digit_glyph}
 pub use Rattle.item_tree.specs.Digits.{without_last_zeros}
 use Rattle.item_tree.specs.Dates.{date_text, date_time_text}
@@ -86,7 +86,3 @@ atom_text (date d) = date_text d
 atom_text (date_time t) = date_time_text t
 atom_text (array vs) = item_text (array vs)
 atom_text (object ms) = item_text (object ms)
-
--- the text after is the text before and more
-abbrev pub Extends : List ℕ → List ℕ → Type 0
-Extends before after = (more : List ℕ) × (after ≡ before ++ more)

@@ -14,4 +14,4 @@ pub mod Functions
 pub mod Laws
 pub mod ItemText
 pub mod JsonString
-pub mod Held
+pub mod inside

@@ -141,7 +141,7 @@ fn text_cmp(x: &Str, b: &Item) -> Option<Ordering>
 {
     match b {
         Item::Null => Some(Ordering::Greater),
-        Item::Text(y) => Some(x.compare(y)),
+        Item::Text(y) => Some(x.cmp(y)),
         _ => None,
     }
 }

@@ -3,7 +3,7 @@ ghost use Rattle.std.specs.Str.{IsAscii, chars};
 ghost use Rattle.item_tree.specs.Dates.{IsDate, date_text, date_time_text, clock_text, nanos_text};
 ghost use Rattle.item_tree.specs.Digits.{last_digits, without_last_zeros};
 
-use crate::atom_text::kept_len;
+use crate::decimal::kept_len;
 use crate::{Day, Moment};
 use std::marker::Model;
 use std::str;

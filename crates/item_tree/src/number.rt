@@ -5,7 +5,7 @@ ghost use Rattle.item_tree.specs.Datum.{IsWhole, IsUnits};
 use std::marker::Model;
 
 /// An integer: a whole number n with |n| < 10^20.
-#[derive(Clone, Copy, Debug)]
+#[derive(Clone, Copy, Debug, PartialEq, Eq)]
 pub struct Whole {
     n: i128,
 }
@@ -50,7 +50,7 @@ impl Whole {
 }
 
 /// A decimal: a whole number m of units of 10^-6, with |m| < 10^26.
-#[derive(Clone, Copy, Debug)]
+#[derive(Clone, Copy, Debug, PartialEq, Eq)]
 pub struct Units {
     m: i128,
 }

@@ -5,7 +5,7 @@ ghost use Rattle.std.specs.Str.{chars, encode_utf8_all, all_scalars};
 ghost use Rattle.std.specs.String.{string_bytes};
 
 use crate::NoMemory;
-use crate::held::Held;
+use crate::str_bytes::StrBytes;
 use std::alloc::{AllocError, Global};
 use std::cmp::Ordering;
 use std::hash::{Hash, Hasher};
@@ -14,17 +14,17 @@ use std::marker::Model;
 /// A string, seen as the list of its characters. Copies of a long one share its bytes.
 #[derive(Debug, Drop)]
 pub struct Str {
-    text: Held,
+    text: StrBytes,
 }
 
 impl Model for Str {
     ghost use Rattle.std.specs.Prelude.{ℕ, List};
     ghost use Rattle.std.specs.Str.{chars};
-    ghost use Rattle.item_tree.specs.Held.{held_bytes, IsHeld};
+    ghost use Rattle.item_tree.specs.inside.StrBytes.{bytes_of, IsHeld};
 
     ghost Value = { List ℕ };
 
-    ghost view = { λ s. chars (held_bytes s.text) };
+    ghost view = { λ s. chars (bytes_of s.text) };
 
     ghost invariant = { λ s. IsHeld s.text };
 }
@@ -34,20 +34,16 @@ impl Str {
     pub fn of(alloc: Global, text: &str) -> Result<Str, NoMemory>
         ensures { IfOk result (λ s. s ≡ chars text.now) }
     {
-        match Held::of(alloc, text) {
-            Ok(text) => Ok(Str { text }),
-            Err(_) => Err(NoMemory),
-        }
+        let text = StrBytes::of(alloc, text)?;
+        Ok(Str { text })
     }
 
     /// The string of these characters, without a second copy of them.
     pub fn from_string(alloc: Global, text: String) -> Result<Str, NoMemory>
         ensures { IfOk result (λ s. s ≡ chars (string_bytes text)) }
     {
-        match Held::from_string(alloc, text) {
-            Ok(text) => Ok(Str { text }),
-            Err(_) => Err(NoMemory),
-        }
+        let text = StrBytes::from_string(alloc, text)?;
+        Ok(Str { text })
     }
 
     /// The characters in UTF-8.
@@ -64,17 +60,7 @@ impl Str {
     pub fn copy(&self) -> Result<Str, NoMemory>
         ensures { IfOk result (λ s. s ≡ self.now) }
     {
-        match self.clone() {
-            Ok(text) => Ok(text),
-            Err(_) => Err(NoMemory),
-        }
-    }
-
-    /// The order by code points.
-    pub fn compare(&self, other: &Str) -> Ordering
-        ensures { result ≡ slice_cmp nat_cmp self.now other.now }
-    {
-        self.cmp(other)
+        Ok(self.clone()?)
     }
 }
 
@@ -97,7 +83,7 @@ impl PartialEq for Str {
     ghost laws = { partial_equiv_from_equiv nat_list_eq_equiv };
 
     fn eq(&self, other: &Str) -> bool {
-        self.as_str() == other.as_str()
+        self.text.is_same(&other.text)
     }
 }
 

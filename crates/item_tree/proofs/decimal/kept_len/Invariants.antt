@@ -1,6 +1,6 @@
 use Rattle.std.proofs.Common.{◌≡◌, ◌≤◌, length, take}
 use Rattle.item_tree.specs.ItemText.{without_last_zeros}
-use Rattle.item_tree.proofs.atom_text.kept_len.Given as goal
+use Rattle.item_tree.proofs.decimal.kept_len.Given as goal
 
 abbrev pub invariant-loop-end : goal.invariant-loop-end
 invariant-loop-end l =

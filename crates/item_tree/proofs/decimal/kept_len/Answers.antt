@@ -1,6 +1,6 @@
 use Rattle.std.proofs.Common.{sym, ◌∙◌, arith}
 use Rattle.item_tree.proofs.LastZeros.{zero_last, digit_last}
-use Rattle.item_tree.proofs.atom_text.kept_len.Goals as goal
+use Rattle.item_tree.proofs.decimal.kept_len.Goals as goal
 
 pub loop-end-preserved : goal.loop-end-preserved
 loop-end-preserved c =

@@ -1,0 +1,23 @@
+-- How a string holds its bytes.
+use Rattle.std.specs.Prelude.{◌≡◌, ℕ, ◌-◌, ◌<◌, ◌≤◌, List, length, take, drop, replicate}
+use Rattle.std.specs.Arc.{arc_value}
+use Rattle.std.specs.Str.{IsUtf8}
+use Rattle.std.specs.String.{string_bytes}
+use Rattle.item_tree.specs.declared.str_bytes.StrBytes.{StrBytes}
+use Rattle.item_tree.specs.declared.str_bytes.StrBytes.TheVariants.{Short, Shared}
+
+abbrev pub bytes_of : StrBytes → List ℕ
+bytes_of (Short n bytes) = take n bytes
+bytes_of (Shared text) = string_bytes (arc_value text)
+
+-- so many of the bytes are a text, and the others are zeros
+pub record IsShort (n : ℕ) (bytes : List ℕ) : Type 0 where
+  pub few : n ≤ 14
+  pub whole : length bytes ≡ 14
+  pub text : IsUtf8 (take n bytes)
+  pub zeros : drop n bytes ≡ replicate (14 - n) 0
+
+-- each text is held in one of the two ways alone
+abbrev pub IsHeld : StrBytes → Type 0
+IsHeld (Short n bytes) = IsShort n bytes
+IsHeld (Shared text) = 14 < length (string_bytes (arc_value text))

@@ -1,0 +1,113 @@
+ghost use Rattle.std.specs.Prelude.{◌≡◌, ◌+◌, ◌≤◌, length, take, drop, IfOk};
+ghost use Rattle.std.specs.Int.{w64, from_le_bytes};
+ghost use Rattle.std.specs.Str.{bytes_eq};
+ghost use Rattle.std.specs.String.{string_bytes};
+ghost use Rattle.item_tree.specs.inside.StrBytes.{bytes_of, IsHeld};
+
+use std::alloc::{AllocError, Global};
+use std::str;
+use std::sync::Arc;
+
+/// So many bytes stand in a string itself. With one more it would be larger than two words.
+const SHORT: usize = 14;
+
+/// The bytes of a string: few stand in it, before zeros, and more are shared by its copies.
+#[derive(Debug, Drop)]
+pub(crate) enum StrBytes {
+    Short(u8, [u8; SHORT]),
+    Shared(Arc<String, Global>),
+}
+
+// A text of a few bytes.
+fn short(text: &str) -> StrBytes
+    requires { length text.now ≤ 14 }
+    ensures bytes { bytes_of result ≡ text.now }
+    ensures sound { IsHeld result }
+{
+    let mut bytes = [0u8; SHORT];
+    bytes[..text.len()].copy_from_slice(text.as_bytes());
+    StrBytes::Short(text.len() as u8, bytes)
+}
+
+impl StrBytes {
+    pub(crate) fn of(alloc: Global, text: &str) -> Result<StrBytes, AllocError>
+        ensures { IfOk result (λ h. (bytes_of h ≡ text.now) × IsHeld h) }
+    {
+        if text.len() <= SHORT {
+            Ok(short(text))
+        } else {
+            let shared = Arc::new(alloc, String::from_str(alloc, text)?)?;
+            Ok(StrBytes::Shared(shared))
+        }
+    }
+
+    pub(crate) fn from_string(alloc: Global, text: String) -> Result<StrBytes, AllocError>
+        ensures { IfOk result (λ h. (bytes_of h ≡ string_bytes text) × IsHeld h) }
+    {
+        if text.len() <= SHORT {
+            Ok(short(text.as_str()))
+        } else {
+            Ok(StrBytes::Shared(Arc::new(alloc, text)?))
+        }
+    }
+
+    pub(crate) fn as_str(&self) -> &str
+        requires { IsHeld self.now }
+        ensures { result.now ≡ bytes_of self.now }
+    {
+        match self {
+            StrBytes::Short(n, bytes) => unsafe { str::from_utf8_unchecked(&bytes[..*n as usize]) },
+            StrBytes::Shared(text) => text.as_str(),
+        }
+    }
+
+    pub(crate) fn copy(&self) -> Result<StrBytes, AllocError>
+        requires { IsHeld self.now }
+        ensures { IfOk result (λ h. (bytes_of h ≡ bytes_of self.now) × IsHeld h) }
+    {
+        match self {
+            StrBytes::Short(n, bytes) => Ok(StrBytes::Short(*n, *bytes)),
+            StrBytes::Shared(text) => Ok(StrBytes::Shared(Arc::try_clone(text)?)),
+        }
+    }
+
+    pub(crate) fn is_same(&self, other: &StrBytes) -> bool
+        requires own { IsHeld self.now }
+        requires other { IsHeld other.now }
+        ensures { result ≡ bytes_eq (bytes_of self.now) (bytes_of other.now) }
+    {
+        match self {
+            StrBytes::Short(n, bytes) => match other {
+                StrBytes::Short(m, others) => *n == *m && have_same_words(bytes, others),
+                StrBytes::Shared(_) => false,
+            },
+            StrBytes::Shared(text) => match other {
+                StrBytes::Short(_, _) => false,
+                StrBytes::Shared(other) => text.as_str() == other.as_str(),
+            },
+        }
+    }
+}
+
+// Two words that overlap cover the bytes.
+fn have_same_words(a: &[u8; SHORT], b: &[u8; SHORT]) -> bool
+    ensures { result ≡ bytes_eq a.now b.now }
+{
+    first_word(a) == first_word(b) && last_word(a) == last_word(b)
+}
+
+fn first_word(bytes: &[u8; SHORT]) -> u64
+    ensures { result ≡ from_le_bytes w64 (take 8 bytes.now) }
+{
+    u64::from_le_bytes([
+        bytes[0], bytes[1], bytes[2], bytes[3], bytes[4], bytes[5], bytes[6], bytes[7],
+    ])
+}
+
+fn last_word(bytes: &[u8; SHORT]) -> u64
+    ensures { result ≡ from_le_bytes w64 (drop 6 bytes.now) }
+{
+    u64::from_le_bytes([
+        bytes[6], bytes[7], bytes[8], bytes[9], bytes[10], bytes[11], bytes[12], bytes[13],
+    ])
+}
