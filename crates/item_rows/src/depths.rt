@@ -1,5 +1,5 @@
 use crate::made::{nested, one};
-use item_tree::{MakeFault, Str, array_of, laws, object_of, object_of_distinct};
+use item_tree::{MakeFault, PairList, Str, array_of, laws, object_of, object_of_distinct};
 use std::test::Fail;
 
 #[test]
@@ -25,9 +25,13 @@ fn keeps_the_depth(rt: HostRuntime) -> Result<(), Fail> {
 #[test]
 fn takes_distinct_keys(rt: HostRuntime) -> Result<(), Fail> {
     let alloc = rt.alloc();
-    let pairs = vec![in alloc; (Str::of(alloc, "k")?, nested(alloc, 127)?)]?;
+    let mut pairs = PairList::new(alloc);
+    pairs.put(alloc, Str::of(alloc, "k")?, nested(alloc, 127)?)?;
     assert_eq!(rt; object_of_distinct(alloc, pairs)?.depth(), 128);
-    let pairs = vec![in alloc; (Str::of(alloc, "k")?, nested(alloc, 128)?)]?;
+    let pairs = PairList::of(
+        alloc,
+        vec![in alloc; (Str::of(alloc, "k")?, nested(alloc, 128)?)]?,
+    )?;
     assert!(rt; matches!(object_of_distinct(alloc, pairs), Err(MakeFault::TooDeep)));
     Ok(())
 }

@@ -1,6 +1,7 @@
 pub mod ArrayLists
 pub mod PairLists
 pub mod Places
+pub mod Puts
 pub mod TextOrder
 pub mod EqualLists
 pub mod Emptiness

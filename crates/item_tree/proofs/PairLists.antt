@@ -6,7 +6,7 @@ use Rattle.item_tree.specs.declared.fault.MakeFault.TheVariants.{KeyTwice, TooDe
 use Rattle.item_tree.specs.declared.item.Item.{Item}
 use Rattle.item_tree.specs.Datum.{Datum, null, depth, object_of_pairs, members, pairs_members, Sound, MembersSound, NoneHas, KeysDiffer}
 use Rattle.item_tree.specs.Item.{datum, pair_datums}
-use Rattle.item_tree.specs.Made.{HasKey, HasDeepPair, IsFirstRepeat, RepeatRefused, DistinctRefused}
+use Rattle.item_tree.specs.Made.{HasKey, HasDeepPair, IsFirstRepeat, RepeatRefused, DistinctRefused, ObjectRefused}
 use Rattle.item_tree.proofs.ArrayLists.{step, sound_depth, deep_or}
 
 abbrev pub Pair : Type 0
@@ -37,6 +37,14 @@ sound_more xs i p lt e h k s = subst (λ ys. MembersSound (members (pair_datums 
 
 pub differ_more : (xs : List Pair) (i : ℕ) (p : Pair) → i < length xs → p ≡ get_or xs i p → KeysDiffer (pair_datums (take i xs)) → NoneHas p.0 (pair_datums (take i xs)) → KeysDiffer (pair_datums (take (i + 1) xs))
 differ_more xs i p lt e h n = subst (λ ys. KeysDiffer (pair_datums ys)) (sym (step xs i p lt e)) (differ-push (take i xs) p h n)
+
+-- one more pair, as items and as values
+pub pushed_datums : (xs : List Pair) (p : Pair) → pair_datums (xs ++ p ∷ []) ≡ pair_datums xs ++ (p.0, datum p.1) ∷ []
+pushed_datums [] p = refl
+pushed_datums (y ∷ ys) p = ap (λ zs. (y.0, datum y.1) ∷ zs) (pushed_datums ys p)
+
+pub step_datums : (xs : List Pair) (i : ℕ) (p : Pair) → i < length xs → p ≡ get_or xs i p → pair_datums (take (i + 1) xs) ≡ pair_datums (take i xs) ++ (p.0, datum p.1) ∷ []
+step_datums xs i p lt e = ap pair_datums (step xs i p lt e) ∙ pushed_datums (take i xs) p
 
 pub length_is : (xs : List Pair) → length (pair_datums xs) ≡ length xs
 length_is [] = refl
@@ -82,7 +90,12 @@ deep_from (p ∷ ps) s h =
 pub object_sound : (ps : List (List ℕ × Datum)) → KeysDiffer ps → MembersSound (members ps) → depth (object_of_pairs ps) ≤ 128 → Sound (object_of_pairs ps)
 object_sound ps k s l = (s, subst KeysDiffer (sym (pairs_members ps)) k, omega arith)
 
-pub refused_distinct : (ps : List (List ℕ × Datum)) (f : MakeFault) → KeysDiffer ps → RepeatRefused ps f → DistinctRefused ps f
-refused_distinct ps (KeyTwice at) d r = no_repeat ps at d r
-refused_distinct ps TooDeep d r = absurd r
-refused_distinct ps NoMemory d r = r
+pub refused_repeat : (ps : List (List ℕ × Datum)) (f : MakeFault) → RepeatRefused ps f → ObjectRefused ps f
+refused_repeat ps (KeyTwice at) r = r
+refused_repeat ps TooDeep r = absurd r
+refused_repeat ps NoMemory r = r
+
+pub refused_depth : (ps : List (List ℕ × Datum)) (f : MakeFault) → KeysDiffer ps → DistinctRefused ps f → ObjectRefused ps f
+refused_depth ps (KeyTwice at) d r = absurd r
+refused_depth ps TooDeep d r = (d, r)
+refused_depth ps NoMemory d r = r

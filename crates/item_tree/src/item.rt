@@ -1,12 +1,14 @@
 mod copy;
 mod find;
 mod make;
+mod pair_list;
 
 use crate::item::find::{place_among, value_at};
 use crate::{Day, Moment, NoMemory, Str, Units, Whole};
 pub use make::{array_of, object_of, object_of_distinct};
+pub use pair_list::PairList;
 use std::alloc::Global;
-use std::collections::HashMap;
+use std::collections::BTreeMap;
 use std::marker::Model;
 use std::sync::Arc;
 
@@ -66,17 +68,16 @@ impl Model for Items {
 pub struct Pairs {
     pairs: Arc<Vec<(Str, Item)>, Global>,
     // The position of each key, where there are many.
-    places: Option<Arc<HashMap<Str, usize>, Global>>,
+    places: Option<Arc<BTreeMap<Str, usize>, Global>>,
     depth: u8,
 }
 
 impl Model for Pairs {
-    ghost use Rattle.std.specs.Prelude.{◌≡◌, List, ℕ};
-    ghost use Rattle.std.specs.Option.{ForSome};
+    ghost use Rattle.std.specs.Prelude.{List, ℕ, option_map};
     ghost use Rattle.std.specs.Coded.{coded_list, coded×, coded_ℕ};
     ghost use Rattle.std.specs.Arc.{arc_value};
-    ghost use Rattle.item_tree.specs.Datum.{Datum, Sound, depth as depth_of, object_of_pairs};
-    ghost use Rattle.item_tree.specs.Lookup.{ArePlaces};
+    ghost use Rattle.item_tree.specs.Datum.{Datum, depth as depth_of, object_of_pairs};
+    ghost use Rattle.item_tree.specs.Lookup.{IsObjectKept};
     ghost use Rattle.item_tree.specs.DatumCode.{datum_code};
 
     ghost Value = { List (List ℕ × Datum) };
@@ -87,7 +88,7 @@ impl Model for Pairs {
 
     ghost view = { λ a. pair_datums (arc_value a.pairs).items };
 
-    ghost invariant = { λ a. (a.depth ≡ depth_of (object_of_pairs (pair_datums (arc_value a.pairs).items))) × Sound (object_of_pairs (pair_datums (arc_value a.pairs).items)) × ForSome a.places (λ t. ArePlaces (arc_value t) (pair_datums (arc_value a.pairs).items)) };
+    ghost invariant = { λ a. IsObjectKept a.depth (option_map arc_value a.places) (pair_datums (arc_value a.pairs).items) };
 
     ghost size = { λ ps. depth_of (object_of_pairs ps) };
 
@@ -115,10 +116,7 @@ impl Items {
         ensures { IfOk result (λ v. datums v.items ≡ self) }
     {
         let Items { items, depth: _ } = self;
-        match Arc::unwrap_or_clone(items) {
-            Ok(items) => Ok(items),
-            Err(_) => Err(NoMemory),
-        }
+        Ok(Arc::unwrap_or_clone(items)?)
     }
 }
 
@@ -136,7 +134,8 @@ impl Pairs {
         self.pairs.as_slice()
     }
 
-    /// The value at this key. Where there are many pairs, the time does not grow with their number.
+    /// The value at this key. The time grows with the logarithm of the number of pairs, whatever the
+    /// keys are.
     pub fn get(&self, key: &Str) -> Option<&Item>
         ensures { option_map (λ x. datum x.now) result ≡ lookup key.now self.now }
     {
@@ -165,10 +164,7 @@ impl Pairs {
             places: _,
             depth: _,
         } = self;
-        match Arc::unwrap_or_clone(pairs) {
-            Ok(pairs) => Ok(pairs),
-            Err(_) => Err(NoMemory),
-        }
+        Ok(Arc::unwrap_or_clone(pairs)?)
     }
 }
 

@@ -24,7 +24,7 @@ pub use date_text::DateText;
 pub use decimal::DecimalBuffer;
 pub use fault::{Fault, MakeFault, NoMemory, OpFault, Spot};
 pub use functions::FnId;
-pub use item::{Item, Items, Pairs, array_of, object_of, object_of_distinct};
+pub use item::{Item, Items, PairList, Pairs, array_of, object_of, object_of_distinct};
 pub use number::{Units, Whole};
 pub use text::Str;
 pub use truth::ebv;

@@ -11,10 +11,7 @@ impl Items {
     pub fn copy(&self) -> Result<Items, NoMemory>
         ensures { IfOk result (λ s. s ≡ self.now) }
     {
-        match self.clone() {
-            Ok(items) => Ok(items),
-            Err(_) => Err(NoMemory),
-        }
+        Ok(self.clone()?)
     }
 }
 
@@ -26,10 +23,7 @@ impl Pairs {
     pub fn copy(&self) -> Result<Pairs, NoMemory>
         ensures { IfOk result (λ s. s ≡ self.now) }
     {
-        match self.clone() {
-            Ok(pairs) => Ok(pairs),
-            Err(_) => Err(NoMemory),
-        }
+        Ok(self.clone()?)
     }
 }
 
@@ -41,10 +35,7 @@ impl Item {
     pub fn copy(&self) -> Result<Item, NoMemory>
         ensures { IfOk result (λ x. x ≡ self.now) }
     {
-        match self.clone() {
-            Ok(item) => Ok(item),
-            Err(_) => Err(NoMemory),
-        }
+        Ok(self.clone()?)
     }
 }
 

@@ -1,32 +1,29 @@
-ghost use Rattle.std.specs.Prelude.{◌≡◌, MatchResult, MatchOption};
-ghost use Rattle.std.specs.Option.{ForSome};
+ghost use Rattle.std.specs.Prelude.{◌≡◌, IfOk, option_map};
 ghost use Rattle.std.specs.Arc.{arc_value};
-ghost use Rattle.item_tree.specs.Datum.{AllSound, MembersSound, KeysDiffer, values, members, array_of_list, object_of_pairs, depth as depth_of};
-ghost use Rattle.item_tree.specs.Item.{datum, datums, pair_datums};
-ghost use Rattle.item_tree.specs.Lookup.{ArePlaces};
-ghost use Rattle.item_tree.specs.Made.{ArrayRefused, ObjectRefused, DistinctRefused, RepeatRefused, IsFirstRepeat};
+ghost use Rattle.item_tree.specs.Datum.{AllSound, MembersSound, values, members, array_of_list, object_of_pairs, depth as depth_of};
+ghost use Rattle.item_tree.specs.Item.{datums, pair_datums};
+ghost use Rattle.item_tree.specs.Lookup.{IsIndexed};
+ghost use Rattle.item_tree.specs.Made.{MakesArray, MakesObject, MakesDistinct};
 
-use super::find::place_among;
+use super::pair_list::PairList;
 use super::{Item, Items, Pairs};
-use crate::{MakeFault, Str};
+use crate::{MakeFault, NoMemory, Str};
 use std::alloc::Global;
-use std::collections::HashMap;
+use std::collections::BTreeMap;
 use std::sync::Arc;
 
 /// The array of these items.
 ///
 /// It is refused as too deep exactly where an item has depth 128.
 pub fn array_of(alloc: Global, items: Vec<Item>) -> Result<Item, MakeFault>
-    ensures { MatchResult result (λ x. datum x ≡ array_of_list (datums items.items)) (ArrayRefused (datums items.items)) }
+    ensures { MakesArray (datums items.items) result }
 {
     let depth = array_depth(items.as_slice());
     if depth > 128 {
         return Err(MakeFault::TooDeep);
     }
-    match Arc::new(alloc, items) {
-        Ok(items) => Ok(Item::Array(Items { items, depth })),
-        Err(_) => Err(MakeFault::NoMemory),
-    }
+    let items = Arc::new(alloc, items)?;
+    Ok(Item::Array(Items { items, depth }))
 }
 
 /// The object of these pairs.
@@ -34,60 +31,53 @@ pub fn array_of(alloc: Global, items: Vec<Item>) -> Result<Item, MakeFault>
 /// The first key that repeats an earlier one refuses it; else it is refused as too deep exactly
 /// where a value has depth 128.
 pub fn object_of(alloc: Global, pairs: Vec<(Str, Item)>) -> Result<Item, MakeFault>
-    ensures { MatchResult result (λ x. datum x ≡ object_of_pairs (pair_datums pairs.items)) (ObjectRefused (pair_datums pairs.items)) }
+    ensures { MakesObject (pair_datums pairs.items) result }
 {
-    if pairs.len() <= FEW {
-        return match first_repeat(pairs.as_slice()) {
-            None => object_with(alloc, pairs, None),
-            Some(at) => Err(MakeFault::KeyTwice { at }),
-        };
-    }
-    match shared_places(alloc, pairs.as_slice()) {
-        Ok(places) => object_with(alloc, pairs, Some(places)),
-        Err(fault) => Err(fault),
-    }
+    object_of_distinct(alloc, PairList::of(alloc, pairs)?)
 }
 
-/// The object of these pairs, for a caller that knows that their keys differ.
+/// The object of the pairs of a list, whose keys differ. They are neither compared nor copied again.
 ///
 /// It is refused as too deep exactly where a value has depth 128.
-pub fn object_of_distinct(alloc: Global, pairs: Vec<(Str, Item)>) -> Result<Item, MakeFault>
-    requires { KeysDiffer (pair_datums pairs.items) }
-    ensures { MatchResult result (λ x. datum x ≡ object_of_pairs (pair_datums pairs.items)) (DistinctRefused (pair_datums pairs.items)) }
+pub fn object_of_distinct(alloc: Global, list: PairList) -> Result<Item, MakeFault>
+    ensures { MakesDistinct list result }
 {
-    if pairs.len() <= FEW {
-        return object_with(alloc, pairs, None);
-    }
-    match shared_places(alloc, pairs.as_slice()) {
-        Ok(places) => object_with(alloc, pairs, Some(places)),
-        Err(fault) => Err(fault),
-    }
+    let PairList { pairs, places } = list;
+    object_with(alloc, pairs, places)
 }
 
-// So many keys are sooner compared with each other than put into a table.
-const FEW: usize = 32;
-
-// The object of pairs whose keys differ, with the positions of the keys where they are many.
+// The object of pairs whose keys differ, with their index.
 fn object_with(
     alloc: Global,
     pairs: Vec<(Str, Item)>,
-    places: Option<Arc<HashMap<Str, usize>, Global>>,
+    places: Option<BTreeMap<Str, usize>>,
 ) -> Result<Item, MakeFault>
-    requires differ { KeysDiffer (pair_datums pairs.items) }
-    requires places { ForSome places (λ t. ArePlaces (arc_value t) (pair_datums pairs.items)) }
-    ensures { MatchResult result (λ x. datum x ≡ object_of_pairs (pair_datums pairs.items)) (DistinctRefused (pair_datums pairs.items)) }
+    requires { IsIndexed places (pair_datums pairs.items) }
+    ensures { MakesDistinct (pair_datums pairs.items) result }
 {
     let depth = object_depth(pairs.as_slice());
     if depth > 128 {
         return Err(MakeFault::TooDeep);
     }
-    match Arc::new(alloc, pairs) {
-        Ok(pairs) => Ok(Item::Object(Pairs {
-            pairs,
-            places,
-            depth,
-        })),
-        Err(_) => Err(MakeFault::NoMemory),
+    let places = shared_index(alloc, places)?;
+    let pairs = Arc::new(alloc, pairs)?;
+    Ok(Item::Object(Pairs {
+        pairs,
+        places,
+        depth,
+    }))
+}
+
+// The same index, to be shared by the copies of an object.
+fn shared_index(
+    alloc: Global,
+    places: Option<BTreeMap<Str, usize>>,
+) -> Result<Option<Arc<BTreeMap<Str, usize>, Global>>, NoMemory>
+    ensures { IfOk result (λ o. option_map arc_value o ≡ places) }
+{
+    match places {
+        None => Ok(None),
+        Some(places) => Ok(Some(Arc::new(alloc, places)?)),
     }
 }
 
@@ -113,6 +103,7 @@ fn object_depth(pairs: &[(Str, Item)]) -> u8
 {
     let mut depth = 1;
     for p in pairs {
+        // It tells the proof that the key's characters are sound.
         let _key = p.0.as_str();
         let inside = p.1.depth();
         if depth < inside + 1 {
@@ -120,49 +111,4 @@ fn object_depth(pairs: &[(Str, Item)]) -> u8
         }
     }
     depth
-}
-
-// The position of the first key that an earlier pair has.
-fn first_repeat(pairs: &[(Str, Item)]) -> Option<usize>
-    ensures { MatchOption result (KeysDiffer (pair_datums pairs.now)) (IsFirstRepeat (pair_datums pairs.now)) }
-{
-    for i in 0..pairs.len() {
-        let p = &pairs[i];
-        if place_among(&pairs[..i], &p.0).is_some() {
-            return Some(i);
-        }
-    }
-    None
-}
-
-// The position of each key, or the first that an earlier pair has.
-fn places_of(alloc: Global, pairs: &[(Str, Item)]) -> Result<HashMap<Str, usize>, MakeFault>
-    ensures { MatchResult result (λ m. KeysDiffer (pair_datums pairs.now) × ArePlaces m (pair_datums pairs.now)) (RepeatRefused (pair_datums pairs.now)) }
-{
-    let mut places = HashMap::new(alloc);
-    for i in 0..pairs.len() {
-        let p = &pairs[i];
-        let Ok(key) = p.0.copy() else {
-            return Err(MakeFault::NoMemory);
-        };
-        match places.insert(key, i) {
-            Ok(None) => {}
-            Ok(Some(_)) => return Err(MakeFault::KeyTwice { at: i }),
-            Err(_) => return Err(MakeFault::NoMemory),
-        }
-    }
-    Ok(places)
-}
-
-// The same, to be shared by the copies of an object.
-fn shared_places(
-    alloc: Global,
-    pairs: &[(Str, Item)],
-) -> Result<Arc<HashMap<Str, usize>, Global>, MakeFault>
-    ensures { MatchResult result (λ t. KeysDiffer (pair_datums pairs.now) × ArePlaces (arc_value t) (pair_datums pairs.now)) (RepeatRefused (pair_datums pairs.now)) }
-{
-    match Arc::new(alloc, places_of(alloc, pairs)?) {
-        Ok(places) => Ok(places),
-        Err(_) => Err(MakeFault::NoMemory),
-    }
 }

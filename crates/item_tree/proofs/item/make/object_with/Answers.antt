@@ -1,8 +1,7 @@
 use Rattle.std.proofs.Common.{◌≡◌, ap, arith, sym, subst}
 use Rattle.std.specs.Arc.{arc_value}
-use Rattle.std.specs.Option.{ForSome}
-use Rattle.item_tree.specs.Lookup.{ArePlaces}
-use Rattle.item_tree.specs.Datum.{Sound, depth, object_of_pairs}
+use Rattle.std.specs.Prelude.{option_map}
+use Rattle.item_tree.specs.Lookup.{IsObjectKept}
 use Rattle.item_tree.specs.Item.{pair_datums}
 use Rattle.item_tree.proofs.PairLists.{deep_from, object_sound}
 use Rattle.item_tree.proofs.item.make.object_with.Goals as goal
@@ -17,6 +16,7 @@ pub invariant_of-result : goal.invariant_of-result
 invariant_of-result c =
     let v = rw c.as_slice.ensures.value at c.object_depth-depth.ensures.value in
     let s = rw c.as_slice.ensures.value at c.object_depth-depth.ensures.sound in
-    let e : (arc_value c.in-Ok.pairs).items ≡ c.args.pairs.items = ap (λ w. w.items) c.in-Ok.ensures.ok in
-    let made = subst (λ ys. (c.object_depth-depth.result ≡ depth (object_of_pairs (pair_datums ys))) × Sound (object_of_pairs (pair_datums ys))) (sym e) (v, object_sound _ c.requires.differ s (omega arith)) in
-    (made.0, made.1, subst (λ ys. ForSome c.args.places (λ t. ArePlaces (arc_value t) (pair_datums ys))) (sym e) c.requires.places)
+    let n = c.object_depth-depth.result in
+    let e : (arc_value c.in_ok-pairs.pairs).items ≡ c.args.pairs.items = ap (λ w. w.items) c.in_ok-pairs.ensures.ok in
+    let made = subst (λ o. IsObjectKept n o (pair_datums c.args.pairs.items)) (sym c.in_ok-places.ensures) (v, object_sound _ c.requires.0 s (omega arith), c.requires.1) in
+    subst (λ ys. IsObjectKept n (option_map arc_value c.in_ok-places.places) (pair_datums ys)) (sym e) made

@@ -2,7 +2,7 @@ use Rattle.std.proofs.Common.{take}
 use Rattle.item_tree.specs.Datum.{KeysDiffer}
 use Rattle.item_tree.specs.Item.{pair_datums}
 use Rattle.item_tree.specs.Lookup.{ArePlaces}
-use Rattle.item_tree.proofs.item.make.places_of.Given as goal
+use Rattle.item_tree.proofs.item.find.index_of.Given as goal
 
 abbrev pub invariant-loop-i : goal.invariant-loop-i
 invariant-loop-i l = KeysDiffer (pair_datums (take l.i l.pairs)) × ArePlaces l.places (pair_datums (take l.i l.pairs))

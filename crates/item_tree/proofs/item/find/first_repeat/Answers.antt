@@ -2,7 +2,7 @@ use Rattle.std.proofs.Common.{sym, ◌∙◌, ap}
 use Rattle.std.specs.Option.{is_some}
 use Rattle.item_tree.proofs.PairLists.{repeat_at, differ_more}
 use Rattle.item_tree.proofs.Places.{none_from, has_from}
-use Rattle.item_tree.proofs.item.make.first_repeat.Goals as goal
+use Rattle.item_tree.proofs.item.find.first_repeat.Goals as goal
 
 pub returns-then-is_some : goal.returns-then-is_some
 returns-then-is_some c =
