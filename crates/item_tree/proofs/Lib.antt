@@ -17,4 +17,6 @@ mod ShortTexts
 mod StringRows
 mod TextRows
 mod DateOrder
+mod DayNumbers
+pub mod DateTexts
 mod DateRows

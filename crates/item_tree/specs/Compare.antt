@@ -34,8 +34,8 @@ atom (date_time t) = Some (moment t)
 atom (array vs) = None
 atom (object ms) = None
 
--- null is less than every other atomic, and no two other classes compare; false is less than true, strings
--- compare by code points, and dates and date-times by time
+-- null is less than every other atomic, and no two other classes compare; false is less than true,
+-- strings compare by code points, and dates and date-times by time
 abbrev pub order : Atom → Atom → Option Ordering
 order nothing nothing = Some Equal
 order nothing _ = Some Less

@@ -1,5 +1,6 @@
 -- Dates and date-times, and their texts.
--- The calendar is the Gregorian one, also for the years before it was in use. A date-time is in UTC.
+-- The calendar is the Gregorian one, also for the years before it was in use. A date-time is in
+-- UTC.
 use Rattle.std.specs.Prelude.{ℕ, zero, suc, ◌+◌, ◌-◌, ◌*◌, ◌/◌, ◌%◌, ◌^◌, ◌<◌, ℤ, pos, ◌-ℤ◌, Bool, not, ◌&&◌, ◌||◌, ◌==◌, if◌then◌else◌, List, [], ◌∷◌, ◌++◌}
 use Rattle.std.specs.Int.{IsInRange}
 use Rattle.std.specs.Ordering.{nat_cmp, on, then_cmp}
@@ -42,7 +43,9 @@ IsDateTime t = IsDate t.date × (t.nanos < nanos_of_day)
 
 -- by year, then by month, then by day
 abbrev pub date_cmp : Date → Date → Ordering
-date_cmp = then_cmp (on (λ d. d.year) nat_cmp) (then_cmp (on (λ d. d.month) nat_cmp) (on (λ d. d.day) nat_cmp))
+date_cmp =
+    then_cmp (on (λ d. d.year) nat_cmp)
+    (then_cmp (on (λ d. d.month) nat_cmp) (on (λ d. d.day) nat_cmp))
 
 -- by date, and on one date by the time of day
 abbrev pub date_time_cmp : DateTime → DateTime → Ordering
@@ -78,7 +81,8 @@ date_text d = last_digits 4 d.year ++ 45 ∷ last_digits 2 d.month ++ 45 ∷ las
 
 -- HH:MM:SS, of so many seconds since midnight
 abbrev pub clock_text : ℕ → List ℕ
-clock_text s = last_digits 2 (s / 3600) ++ 58 ∷ last_digits 2 (s / 60 % 60) ++ 58 ∷ last_digits 2 (s % 60)
+clock_text s =
+    last_digits 2 (s / 3600) ++ 58 ∷ last_digits 2 (s / 60 % 60) ++ 58 ∷ last_digits 2 (s % 60)
 
 -- a point and the fraction of a second, in nanoseconds, without zeros at its end; nothing for 0
 abbrev pub nanos_text : ℕ → List ℕ
@@ -87,4 +91,5 @@ nanos_text n = if n == 0 then [] else 46 ∷ without_last_zeros (last_digits 9 n
 -- the date, `T`, the time of day, and `Z`
 abbrev pub date_time_text : DateTime → List ℕ
 date_time_text t =
-    date_text t.date ++ 84 ∷ clock_text (t.nanos / 10 ^ 9) ++ nanos_text (t.nanos % 10 ^ 9) ++ 90 ∷ []
+    date_text t.date ++ 84 ∷ clock_text (t.nanos / 10 ^ 9)
+    ++ nanos_text (t.nanos % 10 ^ 9) ++ 90 ∷ []

@@ -103,8 +103,8 @@ IsWhole n = (neg_ℤ (pos (10 ^ 20)) <ℤ n) × (n <ℤ pos (10 ^ 20))
 abbrev pub IsUnits : ℤ → Type 0
 IsUnits m = (neg_ℤ (pos (10 ^ 26)) <ℤ m) × (m <ℤ pos (10 ^ 26))
 
--- at every level the numbers are within their bounds, the texts are of characters, the calendar has the
--- dates, an object's keys differ, and the depth is at most 128
+-- at every level the numbers are within their bounds, the texts are of characters, the calendar has
+-- the dates, an object's keys differ, and the depth is at most 128
 abbrev mutual
   pub Sound : Datum → Type 0
   Sound null = Unit {0}

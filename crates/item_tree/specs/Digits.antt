@@ -10,4 +10,5 @@ last_digits (suc count) n = last_digits count (n / 10) ++ (48 + n % 10) ∷ []
 -- the digits without the zeros at their end
 abbrev pub without_last_zeros : List ℕ → List ℕ
 without_last_zeros [] = []
-without_last_zeros (d ∷ ds) = if list_all (λ e. e == 48) (d ∷ ds) then [] else d ∷ without_last_zeros ds
+without_last_zeros (d ∷ ds) =
+    if list_all (λ e. e == 48) (d ∷ ds) then [] else d ∷ without_last_zeros ds

@@ -1,7 +1,8 @@
 -- Laws of comparisons, of depth and of functions.
-use Rattle.std.specs.Prelude.{◌≡◌, ◌≢◌, ℕ, ◌+◌, ◌≤◌, max, Bool, true, false, Option, Some, None, option_map, List, [], ◌∷◌, map, IsSome, if◌then◌else◌}
-use Rattle.std.specs.Ordering.{ordering_reverse}
+use Rattle.std.specs.Prelude.{◌≡◌, ◌≢◌, ℕ, pos, ◌+◌, ◌≤◌, max, Bool, true, false, Option, Some, None, option_map, List, [], ◌∷◌, map, IsSome, if◌then◌else◌}
+use Rattle.std.specs.Ordering.{ordering_reverse, int_cmp}
 use Rattle.std.specs.declared.cmp.Ordering.TheVariants.{Less, Equal}
+use Rattle.item_tree.specs.Dates.{Date, IsDate, date_cmp, first_of_1970, day_number}
 use Rattle.item_tree.specs.declared.functions.FnId.{FnId}
 use Rattle.item_tree.specs.Functions.{name_of, takes_arity, function_named}
 use Rattle.item_tree.specs.Datum.{Datum, null, boolean, integer, decimal, text, date, date_time, array, object, values, array_of_list, object_of_pairs, depth, Sound, AllSound, IsAtomic, is_null}
@@ -60,6 +61,12 @@ pub record AtomicsAreOrdered : Type 0 where
   pub apart : (v w : Datum) → is_null v ≡ false → is_null w ≡ false → class_of v ≢ class_of w → compare_atoms v w ≡ None
   pub atomic : (v w : Datum) → IsSome (compare_atoms v w) → IsAtomic v × IsAtomic w
   pub lowest : (v : Datum) → IsAtomic v → compare_atoms null v ≡ Some (if is_null v then Equal else Less)
+
+-- the first of January 1970 has the day number 0, and dates compare as their day numbers do; so no two dates
+-- have one day number
+pub record DaysAreNumbered : Type 0 where
+  pub first : day_number first_of_1970 ≡ pos 0
+  pub ordered : (d e : Date) → IsDate d → IsDate e → date_cmp d e ≡ int_cmp (day_number d) (day_number e)
 
 abbrev pub greatest : List ℕ → ℕ
 greatest [] = 0

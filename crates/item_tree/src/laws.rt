@@ -1,7 +1,7 @@
 //! Laws of the definitions that contracts cite. Each holds of all values: a call brings it to a
 //! proof, and does nothing when it runs.
 
-ghost use Rattle.item_tree.specs.Laws.{KeysAreEquivalent, ItemsAreEquivalent, SequencesAreEquivalent, AtomicsCompare, AtomicsAreOrdered, DepthsAreKept, FunctionsAreFound};
+ghost use Rattle.item_tree.specs.Laws.{KeysAreEquivalent, ItemsAreEquivalent, SequencesAreEquivalent, AtomicsCompare, AtomicsAreOrdered, DepthsAreKept, DaysAreNumbered, FunctionsAreFound};
 
 /// `same_key` is an equivalence on keys.
 pub fn keys_are_equivalent()
@@ -31,6 +31,11 @@ pub fn atomics_compare()
 /// How deep arrays and objects are.
 pub fn depths_are_kept()
     ensures { DepthsAreKept }
+{}
+
+/// A date's day number, which counts from 1970-01-01, orders dates as they compare.
+pub fn days_are_numbered()
+    ensures { DaysAreNumbered }
 {}
 
 /// Each function is found by its name and each number of arguments that it takes, and by no other.
