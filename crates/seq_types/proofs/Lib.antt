@@ -1,1 +1,2 @@
 mod TypeNames
+mod TypeLaws

@@ -6,7 +6,7 @@ use Rattle.item_tree.specs.Datum.{Datum}
 use Rattle.seq_types.specs.declared.types.SeqType.{SeqType}
 use Rattle.seq_types.specs.declared.types.SeqType.TheVariants.{Empty, Of}
 use Rattle.seq_types.specs.declared.types.ItemType.{ItemType}
-use Rattle.seq_types.specs.declared.types.ItemType.TheVariants.{Item, JsonItem, Object, Array, Atomic, Text, Integer, Decimal, Boolean, Null}
+use Rattle.seq_types.specs.declared.types.ItemType.TheVariants.{Item, JsonItem, Object, Array, Atomic, Text, Integer, Decimal, Boolean, Null, Date, DateTime}
 use Rattle.seq_types.specs.declared.types.Times.{Times}
 use Rattle.seq_types.specs.declared.types.Times.TheVariants.{One, Optional, Any, Many}
 
@@ -52,6 +52,14 @@ abbrev pub is_null : Datum → Bool
 is_null value.null = true
 is_null _ = false
 
+abbrev pub is_date : Datum → Bool
+is_date (value.date d) = true
+is_date _ = false
+
+abbrev pub is_date_time : Datum → Bool
+is_date_time (value.date_time t) = true
+is_date_time _ = false
+
 -- whether the value is of this type
 abbrev pub is_of : ItemType → Datum → Bool
 is_of Item v = true
@@ -64,6 +72,8 @@ is_of Integer v = is_integer v
 is_of Decimal v = is_decimal v
 is_of Boolean v = is_boolean v
 is_of Null v = is_null v
+is_of Date v = is_date v
+is_of DateTime v = is_date_time v
 
 -- whether the sequence has as many values as the type allows, each of its type
 abbrev pub fits : SeqType → List Datum → Bool

@@ -1,6 +1,7 @@
 //! The types of sequences, their names in a query, and which sequences they fit.
 #![tactic(auto)]
 
+pub mod laws;
 mod matching;
 mod names;
 mod types;

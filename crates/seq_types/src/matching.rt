@@ -48,5 +48,7 @@ fn is_of(t: ItemType, x: &Item) -> bool
         ItemType::Decimal => matches!(x, Item::Int(_) | Item::Dec(_)),
         ItemType::Boolean => matches!(x, Item::Bool(_)),
         ItemType::Null => matches!(x, Item::Null),
+        ItemType::Date => matches!(x, Item::Date(_)),
+        ItemType::DateTime => matches!(x, Item::DateTime(_)),
     }
 }

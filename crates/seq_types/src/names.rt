@@ -28,6 +28,8 @@ fn type_spelled(name: &str, parens: bool) -> Option<ItemType>
         "decimal" => Some(ItemType::Decimal),
         "boolean" => Some(ItemType::Boolean),
         "null" => Some(ItemType::Null),
+        "date" => Some(ItemType::Date),
+        "dateTime" => Some(ItemType::DateTime),
         _ => None,
     }
 }

@@ -1,9 +1,9 @@
-use crate::{ItemType, SeqType, Times, find_type, matches};
-use item_tree::{Item, Str, Units, Whole, array_of, object_of};
+use crate::{ItemType, SeqType, Times, find_type, laws, matches};
+use item_tree::{Day, Item, Moment, Str, Units, Whole, array_of, object_of};
 use std::alloc::Global;
 use std::test::Fail;
 
-const TYPES: [ItemType; 10] = [
+const TYPES: [ItemType; 12] = [
     ItemType::Item,
     ItemType::JsonItem,
     ItemType::Object,
@@ -14,9 +14,11 @@ const TYPES: [ItemType; 10] = [
     ItemType::Decimal,
     ItemType::Boolean,
     ItemType::Null,
+    ItemType::Date,
+    ItemType::DateTime,
 ];
 
-const NAMES: [&str; 10] = [
+const NAMES: [&str; 12] = [
     "item",
     "json-item",
     "object",
@@ -27,6 +29,8 @@ const NAMES: [&str; 10] = [
     "decimal",
     "boolean",
     "null",
+    "date",
+    "dateTime",
 ];
 
 #[test]
@@ -43,6 +47,7 @@ fn finds_types(rt: HostRuntime) {
         "json",
         "json_item",
         "number",
+        "datetime",
         "empty-sequence",
         "string\u{e9}",
         "i\u{ff}tem",
@@ -50,6 +55,7 @@ fn finds_types(rt: HostRuntime) {
         assert_eq!(rt; find_type(name, false), None, "{name}");
         assert_eq!(rt; find_type(name, true), None, "{name}()");
     }
+    laws::types_are_found();
 }
 
 // An item of each kind.
@@ -62,6 +68,10 @@ fn samples(alloc: Global) -> Result<Vec<Item>, Fail> {
     items.push(Item::Dec(Units::new(1_000_000)))?;
     items.push(Item::Bool(false))?;
     items.push(Item::Null)?;
+    if let Some(day) = Day::new(2024, 2, 29) {
+        items.push(Item::Date(day))?;
+        items.push(Item::DateTime(Moment::new(day, 0)))?;
+    }
     Ok(items)
 }
 
@@ -69,15 +79,18 @@ fn samples(alloc: Global) -> Result<Vec<Item>, Fail> {
 fn fits_one_item(rt: HostRuntime) -> Result<(), Fail> {
     let alloc = rt.alloc();
     let rows = [
-        "yyynnnnnnn",
-        "yynynnnnnn",
-        "ynnnyynnnn",
-        "ynnnynyynn",
-        "ynnnynnynn",
-        "ynnnynnnyn",
-        "ynnnynnnny",
+        "yyynnnnnnnnn",
+        "yynynnnnnnnn",
+        "ynnnyynnnnnn",
+        "ynnnynyynnnn",
+        "ynnnynnynnnn",
+        "ynnnynnnynnn",
+        "ynnnynnnnynn",
+        "ynnnynnnnnyn",
+        "ynnnynnnnnny",
     ];
     let items = samples(alloc)?;
+    assert_eq!(rt; items.len(), rows.len());
     for (x, row) in items.iter().zip(rows.iter()) {
         let one = vec![in alloc; x.copy()?]?;
         for (t, want) in TYPES.iter().zip(row.chars()) {

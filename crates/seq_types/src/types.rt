@@ -25,6 +25,9 @@ pub enum ItemType {
     Decimal,
     Boolean,
     Null,
+    Date,
+    /// Every moment: a date with a time of day.
+    DateTime,
 }
 
 /// How many items a type allows.
