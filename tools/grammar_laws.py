@@ -1,8 +1,14 @@
 #!/usr/bin/env python3
-"""Writes crates/query_grammar/proofs/Productions.antt: the laws of the productions of
-crates/query_grammar/specs/Grammar.antt, a line or two for each. Each law names the first tokens of its
-production and the tokens that can go on with a whole one; both are worked out here, and the check
-proves them. It also says where one token of foresight would not tell how to go on.
+"""Writes two files of crates/query_grammar/proofs from the productions of
+crates/query_grammar/specs/Grammar.antt, with a line or two for each.
+
+Productions.antt has their laws. Each names the first tokens of its production and the tokens that can
+go on with a whole one; both are worked out here, and the check proves them. It also says where one
+token of foresight would not tell how to go on.
+
+Nested.antt says of each that, where so many forms may nest, it has exactly the values that are nested
+no deeper. How deep a value is nested, and what a node adds to its parts, stands in Depths.antt: a
+lemma NODE-depth where arithmetic alone doesn't tell.
 
 A production is an `unfoldable pub NAME : Lang TYPE` and, on the next line, its right side. Run it again
 after a change of the grammar: tools/grammar_laws.py
@@ -39,8 +45,14 @@ def productions(text):
     for m in re.finditer(r"^( *)unfoldable pub (\S+) : Lang (.+)\n\s*(\S+) = (.+)$", text, re.M):
         indent, name, kind, again, body = m.groups()
         assert name == again, name
-        found.append((name, kind, plain(parse(tokens_of(body))), bool(indent)))
+        found.append((name, strip_all(kind), plain(parse(tokens_of(body))), bool(indent)))
     return found
+
+
+def whole_productions(text):
+    """The right sides with the classes that the reader looks for."""
+    lines = re.findall(r"^ *unfoldable pub (\S+) : Lang .+\n\s*\S+ = (.+)$", text, re.M)
+    return {name: parse(tokens_of(body)) for name, body in lines}
 
 
 def plain(e):
@@ -304,7 +316,7 @@ class Sets:
     def write(self, by_mode, kinds, name):
         values = {k: VALUES[truth(lambda m: k in by_mode[m])] for k in self.g.kinds}
         default = max(sorted(set(values.values())), key=list(values.values()).count)
-        self.lines.append(f"abbrev {name} : Set Kind")
+        self.lines.append(f"abbrev pub {name} : Set Kind")
         for k, v in values.items():
             if v != default:
                 self.lines.append(f"{name} m k.{k} = {v}")
@@ -318,6 +330,7 @@ class Writer:
     def __init__(self):
         self.g = Grammar()
         self.sets = Sets(self.g)
+        self.ground = ""  # the ground that a law is given, where it stands in another file
 
     def first(self, e, name):
         return "(λ m. " + self.sets.term({m: self.g.firsts(e, m) for m in MODES}, name + "_firsts") + ")"
@@ -406,8 +419,9 @@ class Writer:
 
     def reference(self, e, outer):
         self.production(e, outer)
-        word = f"{e}-law" if outer else f"{e}-inside"
-        return f"({word} r)" if self.is_inside(self.g.body[e]) else word
+        word = (f"{e}-law" if outer else f"{e}-inside") + self.ground
+        word = f"{word} r" if self.is_inside(self.g.body[e]) else word
+        return f"({word})" if " " in word else word
 
     def production(self, name, outer):
         """Writes the law of a production, after those that it rests on."""
@@ -421,8 +435,7 @@ class Writer:
         premise, argument = ("w.mode.room ≡ true → ", " r") if self.is_inside(body) else ("", "")
         part = f"g.{name}" if self.g.in_module[name] else f"(λ m inner. g.{name})"
         opened = " ".join([f"g.{name}"] + [f"g.{x[3]}" for x in [body] if x[0] == "ahead"] + ["is"])
-        public = "pub " if name == "module_part" else ""
-        self.lines.append(f"  {public}{name}-{word} : {premise}{kind} w {part} {self.first(body, name)} {self.ext(body, name)} {flag}")
+        self.lines.append(f"  pub {name}-{word} : {premise}{kind} w {part} {self.first(body, name)} {self.ext(body, name)} {flag}")
         self.lines.append(f"  unfolding {opened}")
         self.lines.append(f"  {name}-{word}{argument} = named _ _ {law} refl")
         self.lines.append("")
@@ -436,6 +449,246 @@ class Writer:
         ext = {n: self.ext(n, n) for n in ("expr", "single")}
         return HEAD.format(kinds=" ∷ ".join(f"k.{k}" for k in self.g.kinds), sets="\n".join(self.sets.lines),
                            laws="\n".join(self.lines), expr=ext["expr"], single=ext["single"])
+
+
+# ---- what nests
+
+DEPTHS = {
+    "Tree": "tree_depth", "PairKey × ℕ": "key_depth", "Pair": "pair_depth", "List Pair": "(greatest pair_depth)",
+    "List Tree": "(greatest tree_depth)", "ℕ → Step": "(step_at_depth at)", "Lookup": "lookup_depth",
+    "Step": "step_depth", "List Step": "(greatest step_depth)", "Operand": "operand_depth",
+    "List Operand": "(greatest operand_depth)", "Factor": "factor_depth", "List Factor": "(greatest factor_depth)",
+    "Term": "term_depth", "List Term": "(greatest term_depth)", "Option (ℕ × Tree)": "(of_any placed_depth)",
+    "CompareOp × ℕ × Tree": "compared_depth", "Option (CompareOp × ℕ × Tree)": "(of_any compared_depth)",
+    "Clause": "clause_depth", "List Clause": "(greatest clause_depth)", "ℕ × List Clause": "clauses_depth",
+    "Option Tree": "(of_any tree_depth)", "GroupVar": "group_var_depth", "List GroupVar": "(greatest group_var_depth)",
+    "OrderKey": "order_key_depth", "List OrderKey": "(greatest order_key_depth)",
+    "List (List Clause)": "(greatest (greatest clause_depth))", "Bind": "bind_depth",
+    "List Bind": "(greatest bind_depth)", "Case": "case_depth", "List Case": "(greatest case_depth)",
+    "TypeCase": "type_case_depth", "List TypeCase": "(greatest type_case_depth)", "Catch": "catch_depth",
+    "List Catch": "(greatest catch_depth)", "Option (Placed Name) × Tree": "default_depth",
+    "Declaration": "declaration_depth", "List Declaration": "(greatest declaration_depth)", "Module": "module_depth",
+}
+
+
+class NestingWriter:
+    """Writes that productions count what nests in them."""
+
+    def __init__(self, laws):
+        self.laws = laws
+        self.g = laws.g
+        laws.ground = " w"
+        self.body = whole_productions((TOP / "specs" / "Grammar.antt").read_text())
+        depths = (TOP / "proofs" / "Depths.antt").read_text()
+        self.nodes = set(re.findall(r"^pub (\S+)-depth :", depths, re.M))
+        self.lines = []
+        self.done = set()
+
+    def named(self, e):
+        """The productions of the mode that a part names."""
+        if isinstance(e, str):
+            return [e] if e in self.body and self.g.in_module[e] else []
+        return [n for x in e for n in self.named(x)]
+
+    def is_open(self, c):
+        return "m.room" in words(c)
+
+    def stop(self, e):
+        """The class that stops a part where more may nest: what it lets in there."""
+        if isinstance(e, str):
+            return self.stop(self.body[e]) if e in self.body else None
+        if e[0] == "opt" and self.is_open(e[1]):
+            return e[1]
+        return self.stop(e[2]) if e[0] == "mapped" else None
+
+    def law(self, e, name):
+        """The law of a part, with sets by name."""
+        e = plain(e)
+        outer = True
+        if isinstance(e, str):
+            outer = (e, True) in self.laws.done
+        elif any((n, False) in self.laws.done for n in self.named(e)):
+            outer = False
+        return self.laws.wrap(e, self.laws.law(e, name, outer), name)
+
+    def node(self, f):
+        """What a node adds to its parts."""
+        word = f if isinstance(f, str) else f[0]
+        if word == "n.listed":
+            return "(listed-depth _)"
+        if word in ("n.chain", "n.typed"):
+            same = "λ t os. refl" if word == "n.chain" else "λ t place of. refl"
+            return f"({word[2:]}-depth {f[1]} ({same}))"
+        if word[2:] in self.nodes:
+            return f"({word[2:]}-depth {f[1]})" if isinstance(f, list) else f"{word[2:]}-depth"
+        return "(λ x. omega arith)"
+
+    def counts(self, e, name, outer):
+        if isinstance(e, str):
+            return self.reference(e, outer)
+        op, a = e[0], e[1:]
+        again = lambda x: self.counts(x, name, outer)
+        depth = DEPTHS.get(self.g.type[name])
+        if op in ("inner", "top"):
+            assert not outer, name
+            return f"(u.counts r {a[0]})"
+        if op in ("tok", "one"):
+            return f"(plain {self.mode_of(e)})"
+        if op == "mapped":
+            if a[0] == "n.step_at":
+                assert a[1][0] == "from"
+                return f"(step_counts {a[1][1]} (λ at. {strip(again(a[1][2]))}))"
+            return f"(mapped_counts {depth} {words(a[0])} {self.node(a[0])} {again(a[1])})"
+        if op in ("seq", "long"):
+            return f"(seq_counts {again(a[0])} {again(a[1])})"
+        if op in ("before", "from"):
+            return f"({op}_counts {a[0]} {again(a[1])})"
+        if op == "behind":
+            stop = self.stop(a[0])
+            if stop:
+                return f"(shut_counts u.wider {a[1]} (λ m. {words(stop)[1:-1]}) refl {again(a[0])})"
+            return f"(behind_counts {a[1]} {again(a[0])})"
+        if op == "alt":
+            if self.is_open(a[0]):
+                return f"(alt_nested u.wider {self.law(a[1], name)} {self.law(a[2], name)} refl refl refl {again(a[1])} {again(a[2])})"
+            return f"(alt_counts (of_kind {self.mode_of(a[0])}) {again(a[1])} {again(a[2])})"
+        if op == "opt":
+            if self.is_open(a[0]):
+                return f"(opt_nested u.wider {self.law(a[1], name)} refl {again(a[1])})"
+            return f"(opt_counts (of_kind {self.mode_of(a[0])}) {again(a[1])})"
+        if op in ("many", "many_long"):
+            assert not self.is_open(a[0]), name
+            return f"(repeated_counts (of_kind {self.mode_of(a[0])}) {again(a[1])})"
+        if op == "some_of":
+            return f"(more_counts (of_kind {self.mode_of(a[0])}) {again(a[1])} {again(a[1])})"
+        if op == "list_of":
+            return f"(more_counts (of_kind (is {a[0]})) {again(a[1])} (before_counts {a[0]} {again(a[1])}))"
+        if op == "only":
+            if a[0] == "m.wide":
+                return f"(only_counts w.mode.wide (λ o. {strip(again(a[1]))}))"
+            assert outer and a[1][0] == "mapped", name
+            f, part = a[1][1], a[1][2]
+            return f"(form_counts w.mode.room u.wider.room u.wider.grows u.bare u.one_more {depth} {words(f)} {self.node(f)} (λ r. {strip(self.counts(part, name, False))}))"
+        if op == "unless":
+            return f"(unless_counts (of_kind {words(a[0])}) {again(a[1])})"
+        if op == "ahead":
+            return f"(ahead_nested u.wider {words(a[0])} {words(a[1])} {self.law(a[4], name)} refl {again(a[3])} {again(a[4])})"
+        raise ValueError(e)
+
+    def mode_of(self, c):
+        return words(c).replace("m.wide", "w.mode.wide")
+
+    def reference(self, e, outer):
+        if not self.g.in_module[e]:
+            return f"(plain g.{e})"
+        if self.g.type[e] not in DEPTHS:
+            self.plain(e)
+            return f"{e}-plain"
+        self.production(e, outer)
+        word = f"{e}-counts" if outer else f"{e}-within"
+        at = " at" if self.g.type[e] == "ℕ → Step" else ""
+        r = " r" if not outer and self.laws.is_inside(self.g.body[e]) else ""
+        return f"({word}{at}{r})" if at or r else word
+
+    def plain(self, name):
+        """A production without trees, which doesn't depend on what may nest."""
+        if (name, None) in self.done:
+            return
+        self.done.add((name, None))
+        found, todo = [], [name]
+        while todo:
+            n = todo.pop()
+            if n not in found:
+                found.append(n)
+                todo += self.named(self.body[n])
+        opened = " ".join(f"g.{n}" for n in found)
+        self.lines.append(f"  {name}-plain : {{bound : ℕ}} → Counts bound (λ x. 0) (g.{name} w.mode w.parts).read (g.{name} (above u.wider) u.parts).read never")
+        self.lines.append(f"  unfolding {opened}")
+        self.lines.append(f"  {name}-plain = plain (g.{name} w.mode w.parts)")
+        self.lines.append("")
+
+    def production(self, name, outer):
+        if (name, outer) in self.done:
+            return
+        self.done.add((name, outer))
+        body = self.body[name]
+        law = self.counts(body, name, outer)
+        word, bound = ("counts", "u.bound") if outer else ("within", "u.within")
+        is_inside = not outer and self.laws.is_inside(self.g.body[name])
+        premise, argument = ("w.mode.room ≡ true → ", " r") if is_inside else ("", "")
+        if self.g.type[name] == "ℕ → Step":
+            premise, argument = "(at : ℕ) → " + premise, " at" + argument
+        stop = self.stop(name)
+        stop = f"(of_kind {words(stop).replace('m.wide', 'w.mode.wide').replace('m.room', 'u.wider.room')})" if stop else "never"
+        depth = DEPTHS[self.g.type[name]]
+        public = "pub " if name == "module_part" else ""
+        self.lines.append(f"  {public}{name}-{word} : {premise}Counts {bound} {depth} (g.{name} w.mode w.parts).read (g.{name} (above u.wider) u.parts).read {stop}")
+        self.lines.append(f"  unfolding g.{name} is")
+        self.lines.append(f"  {name}-{word}{argument} = {strip_all(law)}")
+        self.lines.append("")
+
+    def text(self):
+        before = len(self.laws.sets.lines)
+        for name in ("expr", "single"):
+            self.production(name, True)
+        self.production("module_part", False)
+        assert len(self.laws.sets.lines) == before
+        laws = "\n".join(self.lines)
+        nodes = sorted(n for n in self.nodes if f"{n}-depth" in laws)
+        depths = sorted({w for v in DEPTHS.values() for w in re.findall(r"\w+_depth", v) if w in laws})
+        sets = sorted({s for s in self.laws.sets.names.values() if re.search(rf"\b{s}\b m", laws)})
+        used = sorted(set(re.findall(r"\(?\b(\w+-(?:law|inside)) w\b", laws)))
+        classes = [c for c in CLASSES if re.search(rf"(?<![\w.]){c}(?![\w-])", laws)]
+        return NESTED.format(nodes=", ".join(f"{n}-depth" for n in nodes), depths=", ".join(depths), laws=laws,
+                             used=", ".join(["language", "sets"] + sets + used), classes=", ".join(classes))
+
+
+def strip_all(text):
+    return text[1:-1] if text.startswith("(") and text.endswith(")") and closes(text) == len(text) - 1 else text
+
+
+def closes(text):
+    depth = 0
+    for i, c in enumerate(text):
+        depth += {"(": 1, ")": -1}.get(c, 0)
+        if depth == 0:
+            return i
+    return -1
+
+
+CLASSES = ("is given is_name is_call_name is_type_name is_literal is_lookup_key is_sum_op is_product_op is_compare_op "
+           "is_times is_direction is_extreme is_quantifier is_window single_first pair_first argument_first step_first "
+           "order_clause_first first_clause_first clause_first flwor_first").split()
+
+NESTED = """-- Written by tools/grammar_laws.py from the productions of specs/Grammar.antt. Change those, and run it again.
+-- Where so many forms may nest, each production has exactly the values that are nested no deeper.
+use Rattle.std.proofs.Common.{{◌≡◌, ℕ, true, false, refl, arith}}
+use Rattle.query_tree.specs.Plain as p
+use Rattle.query_tree.specs.Nesting.{{greatest}}
+use Rattle.grammar_parts.specs.Tokens.{{never}}
+use Rattle.grammar_parts.proofs.Modes.{{named, one_at, only_at, unless_at, mapped_at, alt_at, opt_at, seq_at, many_at}}
+use Rattle.grammar_parts.proofs.Levels.{{Ground}}
+use Rattle.grammar_parts.proofs.Counts.{{Counts, of_any, mapped_counts, only_counts, unless_counts, alt_counts, opt_counts, seq_counts, form_counts}}
+use Rattle.grammar_parts.proofs.Nested.{{Higher, Counting, above, alt_nested, opt_nested, ahead_nested}}
+use Rattle.query_grammar.specs.declared.word.Kind.{{Kind}}
+use Rattle.query_grammar.specs.declared.word.Kind.TheVariants as k
+use Rattle.query_grammar.specs.declared.word.Word.{{Word}}
+use Rattle.query_grammar.specs.declared.part.Part.{{Part}}
+use Rattle.query_grammar.specs.declared.part.Part.TheVariants as i
+use Rattle.query_grammar.specs.Nodes as n
+use Rattle.query_grammar.specs.Nodes.{{Tree}}
+use Rattle.query_grammar.specs.Classes.{{{classes}}}
+use Rattle.query_grammar.specs.Languages.{{of_kind, one, tok}}
+use Rattle.query_grammar.specs.Grammar as g
+use Rattle.query_grammar.proofs.Depths.{{{depths}, {nodes}, plain, before_counts, from_counts, behind_counts, shut_counts, repeated_counts, more_counts, step_counts}}
+use Rattle.query_grammar.proofs.Productions.{{{used}}}
+
+module _ (w : Ground Word Kind Part Tree language sets) (u : Higher tree_depth w) where
+{laws}
+pub forms-counting : Counting language sets tree_depth g.forms
+forms-counting w u i.Expr = expr-counts w u
+forms-counting w u i.Single = single-counts w u
+"""
 
 
 def words(e):
@@ -496,3 +749,4 @@ if __name__ == "__main__":
             for clash in w.g.clashes(body, m, n):
                 print(m, *clash)
     (TOP / "proofs" / "Productions.antt").write_text(w.text())
+    (TOP / "proofs" / "Nested.antt").write_text(NestingWriter(w).text())

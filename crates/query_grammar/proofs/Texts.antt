@@ -23,7 +23,7 @@ use Rattle.query_grammar.specs.Laws.{HasOneTree, IsDecided, HasOneRefusal}
 use Rattle.query_grammar.proofs.Productions.{language, sets, forms-law, module_part-inside}
 
 -- where a module stands: over two levels of parts that so many forms may nest in, which are the same on at most k words
-abbrev module_ground : Bool → (k n n2 : ℕ) → k ≤ n → k ≤ n2 → Ground Word Kind Name Tree language sets
+abbrev pub module_ground : Bool → (k n n2 : ℕ) → k ≤ n → k ≤ n2 → Ground Word Kind Name Tree language sets
 module_ground wide k n n2 h h2 = record {
   mode = mode_at wide (suc n);
   room_in2 = has_room n2;

@@ -1,11 +1,12 @@
 -- Laws of the grammar and of its words.
-use Rattle.std.specs.Prelude.{◌≡◌, ◌⊎◌, ℕ, List}
+use Rattle.std.specs.Prelude.{◌≡◌, ◌≤◌, ◌⊎◌, ◌↔◌, ℕ, List}
 use Rattle.item_tree.specs.declared.code.Code.{Code}
 use Rattle.query_lexer.specs.declared.token.Token.{Token}
 use Rattle.query_grammar.specs.declared.word.Word.{Word}
 use Rattle.query_grammar.specs.Nodes.{Module}
 use Rattle.query_grammar.specs.Words.{AreWords}
-use Rattle.query_grammar.specs.Texts.{Derives, IsRefused}
+use Rattle.query_tree.specs.Nesting.{module_nesting}
+use Rattle.query_grammar.specs.Texts.{Derives, DerivesWithin, DerivesWithoutBound, IsRefused}
 
 abbrev pub HasOneTree : List Word → Type 0
 HasOneTree words = (tree other : Module) → Derives words tree → Derives words other → tree ≡ other
@@ -21,3 +22,9 @@ IsNeverBoth words end = (tree : Module) (code : Code) (place : ℕ) → Derives 
 
 abbrev pub HasOneReading : List ℕ → List Token → Type 0
 HasOneReading text tokens = (words others : List Word) → AreWords text tokens words → AreWords text tokens others → words ≡ others
+
+-- Where at most n forms may nest, the words derive exactly the trees that they derive without a
+-- bound and that are nested no deeper than n.
+abbrev pub IsBoundedByNesting : ℕ → List Word → Module → Type 0
+IsBoundedByNesting n words tree =
+    DerivesWithin n words tree ↔ (DerivesWithoutBound words tree × (module_nesting tree ≤ n))

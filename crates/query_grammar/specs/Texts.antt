@@ -25,6 +25,13 @@ query = part_of false max_nesting
 abbrev pub Derives : List Word → Module → Type 0
 Derives words tree = query.whole words tree
 
+-- where at most so many forms may nest, and where any number may
+abbrev pub DerivesWithin : ℕ → List Word → Module → Type 0
+DerivesWithin n words tree = (part_of false n).whole words tree
+
+abbrev pub DerivesWithoutBound : List Word → Module → Type 0
+DerivesWithoutBound words tree = (n : ℕ) × DerivesWithin n words tree
+
 abbrev pub Begins : Bool → ℕ → List Word → Type 0
 Begins wide n words = (part_of wide n).begun words
 
