@@ -44,6 +44,3 @@ renamed-good g first ext first2 ext2 empty e good = record {
   judge = good.judge;
   complete = good.complete;
 }
-
-pub empty_named : {T A : Type 0} (g : Part T A) (first ext : Class T) (empty empty2 : Bool) → empty ≡ empty2 → Good g first ext empty → Good g first ext empty2
-empty_named g first ext empty empty2 e good = subst (λ (b : Bool). Good g first ext b) e good

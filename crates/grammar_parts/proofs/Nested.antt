@@ -1,15 +1,15 @@
 -- The nesting of a grammar: at each level a part has exactly the values of a higher level that are nested no deeper than the level allows.
-use Rattle.std.proofs.Common.{◌≡◌, ◌≤◌, ◌+◌, ℕ, zero, suc, max, Bool, true, false, List, [], ◌∷◌, ◌++◌, Option, Some, None, Ok, Err, refl, sym, ap, subst, ◌∙◌, arith}
+use Rattle.std.proofs.Common.{◌≡◌, ◌≤◌, ℕ, zero, suc, max, Bool, true, false, List, [], ◌∷◌, ◌++◌, Some, None, Ok, refl, subst, arith}
 use Rattle.std.specs.Prelude.{◌&&◌}
-use Rattle.std.proofs.lemmas.Bool.{and_parts, false_from_ne_true}
+use Rattle.std.proofs.lemmas.Bool.{and_parts}
 use Rattle.grammar_parts.specs.Tokens.{Class, never, over, sees}
 use Rattle.grammar_parts.specs.Readers.{Reader, Outcome, take_where, read_mapped, read_seq, read_alt, read_ahead}
 use Rattle.grammar_parts.specs.Parts.{Part}
-use Rattle.grammar_parts.specs.Levels.{Mode, Inner, Step, has_room, room_in, mode_at, inside, level}
+use Rattle.grammar_parts.specs.Levels.{Mode, Inner, Step, has_room, room_in, inside, level}
 use Rattle.grammar_parts.specs.Good.{Good, Judge, Apart}
 use Rattle.grammar_parts.proofs.Depth.{itself-same}
 use Rattle.grammar_parts.proofs.Modes.{Language, Set, At, each, each_at, implies, implied, are_apart, apart_at}
-use Rattle.grammar_parts.proofs.Levels.{Sets, Ground, Lawful, levels-good, ground, bare}
+use Rattle.grammar_parts.proofs.Levels.{Sets, Ground, Lawful, no_room, levels-good, ground, bare}
 use Rattle.grammar_parts.proofs.Counts.{Counts, of_any, either_counts, open_counts, ahead_counts, closed_counts}
 
 -- ---- sets of kinds that grow with what may nest
@@ -116,6 +116,9 @@ CountedInside {w = w} u production depth = Counts u.within depth (production w.m
 abbrev pub Counting : {T K I A : Type 0} → Language T K → Sets K I → (A → ℕ) → Step T I A → Type 1
 Counting {T = T} {K = K} {I = I} {A = A} S sets depth step = (w : Ground T K I A S sets) (u : Higher depth w) (i : I) → Counted u (λ m inner. step m inner i) depth
 
+pub not_shut : true ≡ false → ⊥
+not_shut e = cc
+
 pub room_grows : (n k : ℕ) → n ≤ k → has_room n ≡ true → has_room k ≡ true
 room_grows zero k h e = absurd cc
 room_grows (suc n) zero h e = absurd (omega arith)
@@ -127,11 +130,11 @@ module _ {T K I A : Type 0} (S : Language T K) (sets : Sets K I) (step : Step T 
   lowest k = record {
     bound = 0;
     within = 0;
-    wider = record { room = has_room k; room_in = room_in k; grows = λ e. absurd cc; grows_in = λ e. absurd cc };
+    wider = record { room = has_room k; room_in = room_in k; grows = λ e. absurd (no_room e); grows_in = λ e. absurd (no_room e) };
     parts = inside step wide k;
     bare = λ e. refl;
-    one_more = λ e. absurd cc;
-    counts = λ e. absurd cc;
+    one_more = λ e. absurd (no_room e);
+    counts = λ e. absurd (no_room e);
   }
 
   abbrev pub higher : (n k : ℕ) → n ≤ k → ((i : I) → Counts n depth (level step wide n i).read (level step wide k i).read never) → Higher depth (ground S sets step lawful wide zero n n (levels-good S sets step lawful wide n) (λ j. itself-same zero (level step wide n j)))
@@ -140,7 +143,7 @@ module _ {T K I A : Type 0} (S : Language T K) (sets : Sets K I) (step : Step T 
     within = n;
     wider = record { room = true; room_in = has_room k; grows = λ e. refl; grows_in = room_grows n k h };
     parts = level step wide k;
-    bare = λ e. absurd cc;
+    bare = λ e. absurd (not_shut e);
     one_more = λ e. refl;
     counts = λ e. c;
   }

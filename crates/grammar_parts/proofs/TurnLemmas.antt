@@ -1,6 +1,6 @@
 -- Turns one after another, and what they read.
-use Rattle.std.proofs.Common.{◌≡◌, ◌⊎◌, inl, inr, ℕ, zero, suc, ◌≤◌, ◌<◌, Bool, true, false, cond, List, [], ◌∷◌, ◌++◌, length, map, Result, Ok, Err, refl, sym, ap, ◌∙◌, append_assoc, arith}
-use Rattle.std.proofs.lemmas.List.{map-id, append-nil}
+use Rattle.std.proofs.Common.{◌≡◌, ◌⊎◌, inl, inr, ℕ, zero, suc, ◌≤◌, ◌<◌, Bool, true, false, List, [], ◌∷◌, ◌++◌, length, map, Result, Ok, Err, refl, ap, ◌∙◌, arith}
+use Rattle.std.proofs.lemmas.List.{map-id}
 use denote.Ref.{MutBor}
 use Rattle.std.specs.declared.alloc.Global.{Global}
 use Rattle.std.specs.declared.vec.Vec.{Vec}
@@ -8,7 +8,7 @@ use Rattle.grammar_parts.specs.declared.cursor.Cursor.{Cursor}
 use Rattle.grammar_parts.specs.declared.cursor.Stop.{Stop}
 use Rattle.grammar_parts.specs.declared.cursor.Stop.TheVariants as stop
 use Rattle.grammar_parts.specs.Tokens.{Class, sees, rest_of}
-use Rattle.grammar_parts.specs.Readers.{Reader, Outcome, and_then, take_where, taken, read_times, read_many, read_mapped, read_seq}
+use Rattle.grammar_parts.specs.Readers.{Reader, Outcome, and_then, take_where, read_times, read_many, read_mapped, read_seq}
 use Rattle.grammar_parts.specs.Reads.{ReadsAs}
 use Rattle.grammar_parts.specs.Turns.{Call, Turn, Turns, start, Ended, Began, Repeated, Listed, Performs}
 

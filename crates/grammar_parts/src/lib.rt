@@ -50,6 +50,7 @@
 //!     (seq_at (opt_at (w.laws r i.Expr) refl) (one_at (λ m. right)) refl) refl))) refl
 //! ```
 //!
+//! `proofs/` is part of this library: a grammar's own laws cite it, and no function stands between.
 //! From the laws of the parts that stand inside forms, `proofs/Levels.antt` has those of every level,
 //! and that on lists of `k` tokens all levels from `k` on are the same. `proofs/WholeTexts.antt` has
 //! what follows for a text: it derives one value at most, reading gives exactly this value, and what
@@ -83,7 +84,6 @@
 #![tactic(auto)]
 
 mod cursor;
-pub mod laws;
 mod repetition;
 mod token;
 

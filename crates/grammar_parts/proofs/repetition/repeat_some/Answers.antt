@@ -1,6 +1,5 @@
 use Rattle.std.proofs.Common.{false}
-use Rattle.std.proofs.lemmas.Result.{err_from_is_err_and}
-use Rattle.grammar_parts.proofs.TurnLemmas.{turn_at, began_refused, began_more}
+use Rattle.grammar_parts.proofs.TurnLemmas.{turn_at, began_more}
 use Rattle.grammar_parts.proofs.repetition.repeat_some.Goals as goal
 
 pub returns : goal.returns
