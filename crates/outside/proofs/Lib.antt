@@ -1,3 +1,4 @@
-mod Names
+mod NameLemmas
 mod Rows
 mod Sinks
+mod Slices

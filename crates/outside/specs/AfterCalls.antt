@@ -1,50 +1,63 @@
--- What a call makes or leaves of files in memory.
-use Rattle.std.specs.Prelude.{ℕ, Bool, List, Result, Ok, Err, nat_lt}
+-- What a call makes or leaves of the objects that stand in memory.
+use Rattle.std.specs.Prelude.{ℕ, Bool, ◌++◌, List, [], Result, Ok, Err, take, nat_lt}
 use Rattle.outside.specs.Counted.{count_up, count_if}
 use Rattle.outside.specs.World.{World}
-use Rattle.outside.specs.InMemory.{SteadyFiles, FailingFiles, FailingBytes}
+use Rattle.outside.specs.InMemory.{CountedFiles, SlowFiles, FailingFiles, FailingBytes, BoundedSink}
 use Rattle.outside.specs.declared.input.OpenFault.{OpenFault}
-use Rattle.outside.specs.declared.input.OpenFault.TheVariants.{Missing, Failed, NoMemory}
+use Rattle.outside.specs.declared.input.OpenFault.TheVariants.{Missing, Failed}
+use Rattle.outside.specs.declared.sink.Failed as sink
 
 -- files before their first call
-abbrev pub new_steady : World → SteadyFiles
-new_steady w = record { files = w; misses = 0; opened = 0; closed = 0 }
+abbrev pub new_files : World → CountedFiles
+new_files w = record { files = w; misses = 0; opened = 0; closed = 0 }
+
+abbrev pub new_slow : World → ℕ → SlowFiles
+new_slow w most = record { table = new_files w; most = most }
 
 abbrev pub new_failing : World → List ℕ → List (ℕ × ℕ) → FailingFiles
 new_failing w opens calls = record {
-  files = w;
+  table = new_files w;
   failing_opens = opens;
   failing_calls = calls;
   opens = 0;
   faults = 0;
-  misses = 0;
-  opened = 0;
-  closed = 0;
 }
 
--- one more miss, or one more file opened, by the answer
-abbrev pub after_steady_open : {F : Type 0} → SteadyFiles → Result F OpenFault → SteadyFiles
-after_steady_open s (Ok f) = record s { opened = count_up s.opened }
-after_steady_open s (Err Missing) = record s { misses = count_up s.misses }
-after_steady_open s (Err _) = s
+-- one more miss, or one more file given out, by the answer
+abbrev pub after_open : {F : Type 0} → CountedFiles → Result F OpenFault → CountedFiles
+after_open s (Ok f) = record s { opened = count_up s.opened }
+after_open s (Err Missing) = record s { misses = count_up s.misses }
+after_open s (Err _) = s
 
-abbrev pub after_steady_close : SteadyFiles → SteadyFiles
-after_steady_close s = record s { closed = count_up s.closed }
+-- one more file taken back
+abbrev pub after_close : CountedFiles → CountedFiles
+after_close s = record s { closed = count_up s.closed }
 
--- one more open was asked for, and it is a fault where it failed
-abbrev pub after_ask : FailingFiles → Bool → FailingFiles
-after_ask s failed = record s { opens = count_up s.opens; faults = count_if failed s.faults }
+abbrev pub after_slow_open : {F : Type 0} → SlowFiles → Result F OpenFault → SlowFiles
+after_slow_open s answer = record s { table = after_open s.table answer }
 
--- one more open was asked for, and one more fault, miss or file opened, by the answer
-abbrev pub after_open : {F : Type 0} → FailingFiles → Result F OpenFault → FailingFiles
-after_open s (Ok f) = record s { opens = count_up s.opens; opened = count_up s.opened }
-after_open s (Err Missing) = record s { opens = count_up s.opens; misses = count_up s.misses }
-after_open s (Err Failed) = record s { opens = count_up s.opens; faults = count_up s.faults }
-after_open s (Err NoMemory) = record s { opens = count_up s.opens }
+abbrev pub after_slow_close : SlowFiles → SlowFiles
+after_slow_close s = record s { table = after_close s.table }
 
--- one more file was closed, and one more fault where that file had any
-abbrev pub after_close : FailingFiles → FailingBytes → FailingFiles
-after_close s f = record s { closed = count_up s.closed; faults = count_if (nat_lt 0 f.faults) s.faults }
+-- one more fault where the open failed
+abbrev pub faults_after : {F : Type 0} → Result F OpenFault → ℕ → ℕ
+faults_after (Err Failed) n = count_up n
+faults_after _ n = n
+
+-- one more open was asked for
+abbrev pub after_failing_open : {F : Type 0} → FailingFiles → Result F OpenFault → FailingFiles
+after_failing_open s answer = record s {
+  table = after_open s.table answer;
+  opens = count_up s.opens;
+  faults = faults_after answer s.faults;
+}
+
+-- one more fault where the file that was taken back had any
+abbrev pub after_failing_close : FailingFiles → FailingBytes → FailingFiles
+after_failing_close s f = record s {
+  table = after_close s.table;
+  faults = count_if (nat_lt 0 f.faults) s.faults;
+}
 
 -- the file that an open gave, once it was counted
 abbrev pub fresh_file : FailingFiles → List ℕ → FailingBytes
@@ -59,3 +72,12 @@ fresh_file s bytes = record {
 -- one more call, and one more fault where it failed
 abbrev pub after_call : FailingBytes → Bool → FailingBytes
 after_call f failed = record f { calls = count_up f.calls; faults = count_if failed f.faults }
+
+-- a sink before its first write
+abbrev pub new_sink : ℕ → ℕ → BoundedSink
+new_sink room most = record { label = 0; written = []; room = room; most = most; faults = 0 }
+
+-- the bytes that were taken were added, or one more fault was counted
+abbrev pub after_write : BoundedSink → List ℕ → Result ℕ sink.Failed → BoundedSink
+after_write s bytes (Ok n) = record s { written = s.written ++ take n bytes }
+after_write s bytes (Err e) = record s { faults = count_up s.faults }

@@ -1,5 +1,5 @@
--- What a call does to an object's counts, and to what was written.
-use Rattle.std.specs.Prelude.{Bool, true, false, ◌≡◌, ◌<◌, ◌≤◌, ◌⊎◌, ◌++◌, ◌+◌, ◌^◌, ◌-◌, ℕ, List, Option, None, Some, length, take, nat_lt, if◌then◌else◌}
+-- What a call does to a count, and to what was written.
+use Rattle.std.specs.Prelude.{Bool, ◌≡◌, ◌<◌, ◌≤◌, ◌⊎◌, ◌++◌, ◌+◌, ◌^◌, ◌-◌, ℕ, List, Option, None, Some, length, take, nat_lt, if◌then◌else◌}
 
 -- a counter's next value: one more, and after its last value that value again
 abbrev pub count_up : ℕ → ℕ
@@ -16,15 +16,14 @@ Rose before after = (before < after) ⊎ (2 ^ 64 - 1 ≤ after)
 abbrev pub StaysFull : ℕ → ℕ → Type 0
 StaysFull before after = 2 ^ 64 - 1 ≤ before → after ≡ before
 
+-- a count that rose, or stood at the last value of a counter and stays
+abbrev pub Rises : ℕ → ℕ → Type 0
+Rises before after = (before ≤ after) × Rose before after × StaysFull before after
+
 -- a count that rose by one, or stood at the last value of a counter and stays
 abbrev pub RoseByOne : ℕ → ℕ → Type 0
 RoseByOne before after =
     ((before < 2 ^ 64 - 1) × (after ≡ before + 1)) ⊎ ((2 ^ 64 - 1 ≤ before) × (after ≡ before))
-
--- a count that rises where the call fails, and else stays
-abbrev pub FailsBy : Bool → ℕ → ℕ → Type 0
-FailsBy true before after = (before ≤ after) × Rose before after × StaysFull before after
-FailsBy false before after = after ≡ before
 
 -- what is told once these bytes were added at its end
 abbrev pub appended : Option (List ℕ) → List ℕ → Option (List ℕ)

@@ -3,3 +3,4 @@ pub mod Opens
 pub mod World
 pub mod InMemory
 pub mod AfterCalls
+pub mod inside

@@ -1,13 +1,14 @@
-ghost use Rattle.std.specs.Prelude.{◌≡◌, ◌-◌, ◌++◌, ◌↔◌, IsTrue, Contains, IfOk, OnErr, IsErr, IsErrOf, is_err, None, Some, length, take, drop, min};
+ghost use Rattle.std.specs.Prelude.{◌≡◌, ◌<◌, ◌↔◌, IsTrue, Contains, IfOk, OnErr, IsErr, IsErrOf, is_err, Some, length};
 ghost use Rattle.std.specs.Str.{chars};
-ghost use Rattle.outside.specs.World.{file_of, NamesDiffer};
-ghost use Rattle.outside.specs.InMemory.{world_of, NextOpenFails, NextCallFails};
-ghost use Rattle.outside.specs.AfterCalls.{new_steady, new_failing, after_ask, after_open, after_close, fresh_file, after_call};
+ghost use Rattle.outside.specs.World.{file_of, LacksName, NamesDiffer, readable, filled};
+ghost use Rattle.outside.specs.InMemory.{world_of, counts_of, NextOpenFails, NextCallFails};
+ghost use Rattle.outside.specs.AfterCalls.{new_files, new_slow, new_failing, after_failing_open, after_failing_close, fresh_file, after_call};
+ghost use Rattle.outside.specs.inside.Parts.{after_ask};
 
 use crate::count::count_up;
-use crate::memory::{find, shared};
+use crate::file_table::FileTable;
 use crate::shared_bytes::SharedBytes;
-use crate::{Failed, InputFile, Inputs, OpenFault, SteadyInputs};
+use crate::{Failed, InputFile, Inputs, OpenFault, SlowInputs, SteadyInputs};
 use item_tree::{NoMemory, Str};
 use std::alloc::Global;
 use std::marker::Model;
@@ -26,13 +27,10 @@ pub struct Fails {
 /// Files in memory, whose opens and calls fail as they were told.
 #[derive(Drop)]
 pub struct MemInputs {
-    files: Vec<(Str, SharedBytes)>,
+    table: FileTable,
     fails: Arc<Fails, Global>,
     opens: u64,
     faults: u64,
-    misses: u64,
-    opened: u64,
-    closed: u64,
 }
 
 impl Model for MemInputs {
@@ -42,14 +40,11 @@ impl Model for MemInputs {
     ghost Value = { FailingFiles };
 
     ghost view = { λ s. record {
-      files = s.files.items;
+      table = s.table;
       failing_opens = (arc_value s.fails).opens.items;
       failing_calls = (arc_value s.fails).calls.items;
       opens = s.opens;
       faults = s.faults;
-      misses = s.misses;
-      opened = s.opened;
-      closed = s.closed;
     } };
 }
 
@@ -103,27 +98,38 @@ impl MemInputs {
         ensures { IfOk result (λ s.
             s ≡ new_failing (world_of files.items) fails.opens.items fails.calls.items) }
     {
-        let files = shared(alloc, files)?;
-        let Ok(fails) = Arc::new(alloc, fails) else {
-            return Err(NoMemory);
-        };
+        let table = FileTable::new(alloc, files)?;
+        let fails = Arc::new(alloc, fails)?;
         Ok(MemInputs {
-            files,
+            table,
             fails,
             opens: 0,
             faults: 0,
-            misses: 0,
-            opened: 0,
-            closed: 0,
         })
     }
 
     /// Files that never fail, whose names differ. All counts begin at 0.
     pub fn steady(alloc: Global, files: Vec<(Str, Vec<u8>)>) -> Result<SteadyInputs, NoMemory>
         requires { NamesDiffer (world_of files.items) }
-        ensures { IfOk result (λ s. s ≡ new_steady (world_of files.items)) }
+        ensures { IfOk result (λ s. s ≡ new_files (world_of files.items)) }
     {
-        SteadyInputs::new(alloc, files)
+        let table = FileTable::new(alloc, files)?;
+        Ok(SteadyInputs::new(table))
+    }
+
+    /// Files that never fail, whose names differ, and whose reads give at most so many bytes at
+    /// once, which is at least one. All counts begin at 0.
+    pub fn slow(
+        alloc: Global,
+        files: Vec<(Str, Vec<u8>)>,
+        most: usize,
+    ) -> Result<SlowInputs, NoMemory>
+        requires names { NamesDiffer (world_of files.items) }
+        requires some { 0 < most }
+        ensures { IfOk result (λ s. s ≡ new_slow (world_of files.items) most) }
+    {
+        let table = FileTable::new(alloc, files)?;
+        Ok(SlowInputs::new(table, most))
     }
 
     // Counts an open, and a fault where it is one that fails.
@@ -173,8 +179,8 @@ impl InputFile for FailingFile {
 
     fn read_at(&mut self, at: u64, into: &mut [u8]) -> Result<usize, Failed>
         ensures fails { IsErr result ↔ NextCallFails self.old }
-        ensures count { IfOk result (λ n. n ≡ min (length self.old.held - at) (length into.old)) }
-        ensures bytes { IfOk result (λ n. into.new ≡ take n (drop at self.old.held) ++ drop n into.old) }
+        ensures count { IfOk result (λ n. n ≡ readable self.old.held at (length into.old)) }
+        ensures bytes { IfOk result (λ n. into.new ≡ filled self.old.held at n into.old) }
         ensures untouched { OnErr result (into.new ≡ into.old) }
         ensures after { self.new ≡ after_call self.old (is_err result) }
     {
@@ -188,37 +194,24 @@ impl InputFile for FailingFile {
 impl Inputs for MemInputs {
     type File = FailingFile;
 
-    ghost world = { λ s. Some s.files };
+    ghost world = { λ s. Some s.table.files };
 
-    ghost faults = { λ s. s.faults };
-
-    ghost misses = { λ s. s.misses };
-
-    ghost opened = { λ s. s.opened };
-
-    ghost closed = { λ s. s.closed };
+    ghost counts = { λ s. counts_of s.faults s.table };
 
     fn open_file(&mut self, name: &str) -> Result<FailingFile, OpenFault>
         ensures fails { IsErrOf result OpenFault.Failed ↔ NextOpenFails self.old }
-        ensures missing { IsErrOf result OpenFault.Missing → file_of self.old.files (chars name.now) ≡ None }
-        ensures bytes { IfOk result (λ f. file_of self.old.files (chars name.now) ≡ Some f.held) }
+        ensures missing { IsErrOf result OpenFault.Missing →
+            LacksName self.old.table.files (chars name.now) }
+        ensures bytes { IfOk result (λ f.
+            file_of self.old.table.files (chars name.now) ≡ Some f.held) }
         ensures fresh { IfOk result (λ f. f ≡ fresh_file self.new f.held) }
-        ensures after { self.new ≡ after_open self.old result }
+        ensures after { self.new ≡ after_failing_open self.old result }
     {
         if self.fails_now() {
             return Err(OpenFault::Failed);
         }
-        let Some(bytes) = find(&self.files, name) else {
-            self.misses = count_up(self.misses);
-            return Err(OpenFault::Missing);
-        };
-        let Ok(bytes) = bytes.share() else {
-            return Err(OpenFault::NoMemory);
-        };
-        let Ok(fails) = self.fails.clone() else {
-            return Err(OpenFault::NoMemory);
-        };
-        self.opened = count_up(self.opened);
+        let fails = self.fails.clone()?;
+        let bytes = self.table.open(name)?;
         Ok(FailingFile {
             bytes,
             fails,
@@ -229,9 +222,9 @@ impl Inputs for MemInputs {
     }
 
     fn close_file(&mut self, file: FailingFile)
-        ensures { self.new ≡ after_close self.old file }
+        ensures { self.new ≡ after_failing_close self.old file }
     {
-        self.closed = count_up(self.closed);
+        self.table.close();
         if file.faults > 0 {
             self.faults = count_up(self.faults);
         }

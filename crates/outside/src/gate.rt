@@ -1,7 +1,9 @@
 /// What a worker calls before and after each piece of its work.
 pub trait Gate: Sync {
+    /// Called before the piece of this number.
     fn before(&self, piece: u64);
 
+    /// Called behind the piece of this number.
     fn after(&self, piece: u64);
 }
 

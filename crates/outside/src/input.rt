@@ -1,10 +1,12 @@
-ghost use Rattle.std.specs.Prelude.{◌≡◌, ◌<◌, ◌≤◌, ℕ, List, Option, None, length, IfOk, OnOk, OnErr, IfSome, IsErrOf};
+ghost use Rattle.std.specs.Prelude.{◌≡◌, ◌≤◌, ℕ, List, Option, length, IfOk, OnOk, OnErr, IfSome, IsErrOf};
 ghost use Rattle.std.specs.Str.{chars};
-ghost use Rattle.outside.specs.Counted.{Rose, RoseByOne, StaysFull};
-ghost use Rattle.outside.specs.Opens.{MissesBy, FaultsBy, OpensBy};
-ghost use Rattle.outside.specs.World.{World, file_of, Reads, HoldsOf};
+ghost use Rattle.outside.specs.Counted.{Rose};
+ghost use Rattle.outside.specs.Opens.{InputCounts, CountsOpen, CountsClose};
+ghost use Rattle.outside.specs.World.{World, LacksName, ReadsOf, HoldsOf};
 
 use crate::Failed;
+use item_tree::NoMemory;
+use std::alloc::{AllocError, AllocFailed};
 
 /// Why a file was not opened.
 #[derive(Clone, Copy, Debug, PartialEq, Eq)]
@@ -13,7 +15,38 @@ pub enum OpenFault {
     Missing,
     /// The open failed, whether or not there is such a file.
     Failed,
+    /// Memory ran out.
     NoMemory,
+}
+
+impl From<AllocError> for OpenFault {
+    ghost use Rattle.outside.specs.declared.input.OpenFault.TheVariants as open_fault;
+
+    ghost from_gives = { λ _ e. e ≡ open_fault.NoMemory };
+
+    fn from(_e: AllocError) -> OpenFault {
+        OpenFault::NoMemory
+    }
+}
+
+impl<T: Drop> From<AllocFailed<T>> for OpenFault {
+    ghost use Rattle.outside.specs.declared.input.OpenFault.TheVariants as open_fault;
+
+    ghost from_gives = { λ _ e. e ≡ open_fault.NoMemory };
+
+    fn from(_e: AllocFailed<T>) -> OpenFault {
+        OpenFault::NoMemory
+    }
+}
+
+impl From<NoMemory> for OpenFault {
+    ghost use Rattle.outside.specs.declared.input.OpenFault.TheVariants as open_fault;
+
+    ghost from_gives = { λ _ e. e ≡ open_fault.NoMemory };
+
+    fn from(_e: NoMemory) -> OpenFault {
+        OpenFault::NoMemory
+    }
 }
 
 /// A file that is open. Its bytes are counted from 0.
@@ -38,7 +71,7 @@ pub trait InputFile {
     fn read_at(&mut self, at: u64, into: &mut [u8]) -> Result<usize, Failed>
         ensures same { held self.new ≡ held self.old }
         ensures within { IfOk result (λ n. n ≤ length into.old) }
-        ensures bytes { IfOk result (λ n. IfSome (held self.old) (λ b. Reads b at n into.old into.new)) }
+        ensures bytes { IfOk result (λ n. ReadsOf (held self.old) at n into.old into.new) }
 
         ensures steady { OnOk result (faults self.new ≡ faults self.old) }
         ensures cause { OnErr result (Rose (faults self.old) (faults self.new)) }
@@ -52,40 +85,21 @@ pub trait Inputs {
     /// Which files there are, where this is told.
     ghost world: { Self → Option World };
 
-    /// How often an open, or a call on a file that was closed since, has failed.
-    ghost faults: { Self → ℕ };
+    /// What was counted: faults, misses, and files that were given out and taken back.
+    ghost counts: { Self → InputCounts };
 
-    /// How often there was no file of the name.
-    ghost misses: { Self → ℕ };
-
-    /// How many files were given out.
-    ghost opened: { Self → ℕ };
-
-    /// How many files were taken back.
-    ghost closed: { Self → ℕ };
-
+    /// Opens the file of this name. Whoever is given a file gives it back by `close_file`.
     fn open_file(&mut self, name: &str) -> Result<Self::File, OpenFault>
         ensures world { world self.new ≡ world self.old }
         ensures fresh { IfOk result (λ f. Self.File.faults f ≡ 0) }
-        ensures holds { IfOk result (λ f. HoldsOf (world self.old) (chars name.now) (Self.File.held f)) }
+        ensures holds { IfOk result (λ f.
+            HoldsOf (world self.old) (chars name.now) (Self.File.held f)) }
         ensures missing { IsErrOf result OpenFault.Missing →
-            IfSome (world self.old) (λ w. file_of w (chars name.now) ≡ None) }
-
-        ensures misses { MissesBy result (misses self.old) (misses self.new) }
-        ensures faults { FaultsBy result (faults self.old) (faults self.new) }
-        ensures opens { OpensBy result (opened self.old) (opened self.new) }
-        ensures closed { closed self.new ≡ closed self.old };
+            IfSome (world self.old) (λ w. LacksName w (chars name.now)) }
+        ensures counts { CountsOpen result (counts self.old) (counts self.new) };
 
     /// Takes the file back, and its faults into the count of these inputs.
     fn close_file(&mut self, file: Self::File)
         ensures world { world self.new ≡ world self.old }
-
-        ensures carried { 0 < Self.File.faults file → Rose (faults self.old) (faults self.new) }
-        ensures clean { Self.File.faults file ≡ 0 → faults self.new ≡ faults self.old }
-        ensures rises { faults self.old ≤ faults self.new }
-        ensures full { StaysFull (faults self.old) (faults self.new) }
-
-        ensures closed { RoseByOne (closed self.old) (closed self.new) }
-        ensures opened { opened self.new ≡ opened self.old }
-        ensures misses { misses self.new ≡ misses self.old };
+        ensures counts { CountsClose (Self.File.faults file) (counts self.old) (counts self.new) };
 }

@@ -5,21 +5,24 @@
 
 mod count;
 mod failing;
+mod file_table;
 mod gate;
 mod input;
 mod mem_sink;
-mod memory;
+mod names;
 mod shared_bytes;
 mod sink;
+mod slow;
 mod steady;
 
 pub use failing::{FailingFile, Fails, MemInputs};
 pub use gate::{FreeGate, Gate};
 pub use input::{InputFile, Inputs, OpenFault};
 pub use mem_sink::MemSink;
-pub use memory::names_differ;
+pub use names::names_differ;
 pub use sink::{Failed, Sink, write_all};
-pub use steady::{MemFile, SteadyInputs};
+pub use slow::{SlowFile, SlowInputs};
+pub use steady::{SteadyFile, SteadyInputs};
 
 #[cfg(test)]
 mod tests;

@@ -1,6 +1,6 @@
-ghost use Rattle.std.specs.Prelude.{◌≡◌, ◌<◌, ◌≤◌, ◌-◌, ◌↔◌, [], ◌++◌, length, take, min, IfOk, OnErr, IsErr};
-ghost use Rattle.outside.specs.InMemory.{BoundedSink, IsStuck, room_left};
-ghost use Rattle.outside.specs.Counted.{count_up};
+ghost use Rattle.std.specs.Prelude.{◌≡◌, ◌<◌, ◌≤◌, ◌↔◌, length, IfOk, IsErr};
+ghost use Rattle.outside.specs.InMemory.{takes_of, IsStuck};
+ghost use Rattle.outside.specs.AfterCalls.{new_sink, after_write};
 
 use crate::count::count_up;
 use crate::{Failed, Sink};
@@ -12,6 +12,7 @@ use std::marker::Model;
 /// where its room is used up, or where it takes nothing at all.
 #[derive(Drop)]
 pub struct MemSink {
+    label: u32,
     bytes: Vec<u8>,
     room: usize,
     most: usize,
@@ -20,11 +21,13 @@ pub struct MemSink {
 
 impl Model for MemSink {
     ghost use Rattle.std.specs.Prelude.{length, vec_capacity};
-    ghost use Rattle.outside.specs.InMemory.{BoundedSink, KeepsRoom};
+    ghost use Rattle.outside.specs.InMemory.{BoundedSink};
+    ghost use Rattle.outside.specs.inside.Parts.{KeepsRoom};
 
     ghost Value = { BoundedSink };
 
     ghost view = { λ s. record {
+      label = s.label;
       written = s.bytes.items;
       room = s.room;
       most = s.most;
@@ -36,19 +39,32 @@ impl Model for MemSink {
 }
 
 impl MemSink {
-    /// An empty sink, which takes all its room at once.
+    /// An empty sink with the label 0, which takes the memory for all its room at once.
     pub fn new(alloc: Global, room: usize, most: usize) -> Result<MemSink, NoMemory>
-        ensures { IfOk result (λ s. s ≡ record { written = []; room = room; most = most; faults = 0 }) }
+        ensures { IfOk result (λ s. s ≡ new_sink room most) }
     {
-        let Ok(bytes) = Vec::with_capacity(alloc, room) else {
-            return Err(NoMemory);
-        };
+        let bytes = Vec::with_capacity(alloc, room)?;
         Ok(MemSink {
+            label: 0,
             bytes,
             room,
             most,
             faults: 0,
         })
+    }
+
+    /// The same sink with this label.
+    pub fn labelled(self, label: u32) -> MemSink
+        ensures { result ≡ record self { label = label } }
+    {
+        MemSink { label, ..self }
+    }
+
+    /// The number by which the sink is told from others.
+    pub fn label(&self) -> u32
+        ensures { result ≡ self.now.label }
+    {
+        self.label
     }
 
     /// What was written.
@@ -64,17 +80,16 @@ impl MemSink {
 impl Sink for MemSink {
     ghost use Rattle.std.specs.Prelude.{Some};
 
+    ghost label = { λ s. s.label };
+
     ghost wrote = { λ s. Some s.written };
 
     ghost faults = { λ s. s.faults };
 
     fn write(&mut self, bytes: &[u8]) -> Result<usize, Failed>
         ensures fails { IsErr result ↔ ((0 < length bytes.now) × IsStuck self.old) }
-        ensures count { IfOk result (λ n.
-            n ≡ min self.old.most (min (room_left self.old) (length bytes.now))) }
-        ensures ok { IfOk result (λ n.
-            self.new ≡ record self.old { written = self.old.written ++ take n bytes.now }) }
-        ensures err { OnErr result (self.new ≡ record self.old { faults = count_up self.old.faults }) }
+        ensures count { IfOk result (λ n. n ≡ takes_of self.old bytes.now) }
+        ensures after { self.new ≡ after_write self.old bytes.now result }
     {
         let left = self.room - self.bytes.len();
         let count = self.most.min(left).min(bytes.len());

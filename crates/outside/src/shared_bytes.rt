@@ -1,4 +1,5 @@
-ghost use Rattle.std.specs.Prelude.{◌≡◌, ◌-◌, ◌++◌, IfOk, length, take, drop, min};
+ghost use Rattle.std.specs.Prelude.{◌≡◌, IfOk, length};
+ghost use Rattle.outside.specs.World.{readable, filled};
 
 use item_tree::NoMemory;
 use std::alloc::Global;
@@ -24,20 +25,16 @@ impl SharedBytes {
     pub(crate) fn new(alloc: Global, bytes: Vec<u8>) -> Result<SharedBytes, NoMemory>
         ensures { IfOk result (λ s. s ≡ bytes.items) }
     {
-        match Arc::new(alloc, bytes) {
-            Ok(bytes) => Ok(SharedBytes { bytes }),
-            Err(_) => Err(NoMemory),
-        }
+        let bytes = Arc::new(alloc, bytes)?;
+        Ok(SharedBytes { bytes })
     }
 
     /// The same bytes once more, without a copy.
     pub(crate) fn share(&self) -> Result<SharedBytes, NoMemory>
         ensures { IfOk result (λ s. s ≡ self.now) }
     {
-        match self.bytes.clone() {
-            Ok(bytes) => Ok(SharedBytes { bytes }),
-            Err(_) => Err(NoMemory),
-        }
+        let bytes = self.bytes.clone()?;
+        Ok(SharedBytes { bytes })
     }
 
     pub(crate) fn len(&self) -> u64
@@ -48,8 +45,8 @@ impl SharedBytes {
 
     /// Reads as many bytes from this place on as there are and as the slice has room for.
     pub(crate) fn read_at(&self, at: u64, into: &mut [u8]) -> usize
-        ensures count { result ≡ min (length self.now - at) (length into.old) }
-        ensures bytes { into.new ≡ take result (drop at self.now) ++ drop result into.old }
+        ensures count { result ≡ readable self.now at (length into.old) }
+        ensures bytes { into.new ≡ filled self.now at result into.old }
     {
         let bytes = self.bytes.as_slice();
         if at >= bytes.len() as u64 {

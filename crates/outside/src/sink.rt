@@ -7,6 +7,9 @@ pub struct Failed;
 
 /// Where bytes are written.
 pub trait Sink {
+    /// A number that the sink was given, by which it is told from others. No write changes it.
+    ghost label: { Self → ℕ };
+
     /// What was written so far, where the sink tells it.
     ghost wrote: { Self → Option (List ℕ) };
 
@@ -15,8 +18,10 @@ pub trait Sink {
 
     /// Takes the first bytes of a piece, as many as it answers. If it fails, it has taken none.
     fn write(&mut self, bytes: &[u8]) -> Result<usize, Failed>
+        ensures label { label self.new ≡ label self.old }
         ensures within { IfOk result (λ n. n ≤ length bytes.now) }
-        ensures taken { IfOk result (λ n. wrote self.new ≡ appended (wrote self.old) (take n bytes.now)) }
+        ensures taken { IfOk result (λ n.
+            wrote self.new ≡ appended (wrote self.old) (take n bytes.now)) }
         ensures err { OnErr result (wrote self.new ≡ wrote self.old) }
 
         ensures steady { IfOk result (λ n.
@@ -29,6 +34,7 @@ pub trait Sink {
 
 /// Writes all the bytes, or fails after a part of them, which is never the whole.
 pub fn write_all<S: Sink>(sink: &mut S, bytes: &[u8]) -> Result<(), Failed>
+    ensures label { S.label sink.new ≡ S.label sink.old }
     ensures all { OnOk result (S.wrote sink.new ≡ appended (S.wrote sink.old) bytes.now) }
     ensures prefix { OnErr result (CutShort bytes.now (S.wrote sink.old) (S.wrote sink.new)) }
 

@@ -1,46 +1,35 @@
-ghost use Rattle.std.specs.Prelude.{◌≡◌, ◌-◌, ◌++◌, IfOk, Ok, IsErrOf, None, Some, length, take, drop, min};
+ghost use Rattle.std.specs.Prelude.{◌≡◌, IfOk, Ok, IsErrOf, Some, length};
 ghost use Rattle.std.specs.Str.{chars};
-ghost use Rattle.outside.specs.World.{file_of};
-ghost use Rattle.outside.specs.InMemory.{world_of};
-ghost use Rattle.outside.specs.AfterCalls.{new_steady, after_steady_open, after_steady_close};
+ghost use Rattle.outside.specs.World.{file_of, LacksName, readable, filled};
+ghost use Rattle.outside.specs.InMemory.{counts_of};
+ghost use Rattle.outside.specs.AfterCalls.{after_open, after_close};
 
-use crate::count::count_up;
-use crate::memory::{find, shared};
+use crate::file_table::FileTable;
 use crate::shared_bytes::SharedBytes;
 use crate::{Failed, InputFile, Inputs, OpenFault};
-use item_tree::{NoMemory, Str};
-use std::alloc::Global;
 use std::marker::Model;
 
 /// Files in memory that never fail.
 #[derive(Drop)]
 pub struct SteadyInputs {
-    files: Vec<(Str, SharedBytes)>,
-    misses: u64,
-    opened: u64,
-    closed: u64,
+    table: FileTable,
 }
 
 impl Model for SteadyInputs {
-    ghost use Rattle.outside.specs.InMemory.{SteadyFiles};
+    ghost use Rattle.outside.specs.InMemory.{CountedFiles};
 
-    ghost Value = { SteadyFiles };
+    ghost Value = { CountedFiles };
 
-    ghost view = { λ s. record {
-      files = s.files.items;
-      misses = s.misses;
-      opened = s.opened;
-      closed = s.closed;
-    } };
+    ghost view = { λ s. s.table };
 }
 
 /// An open file of these, seen as its bytes.
 #[derive(Drop)]
-pub struct MemFile {
+pub struct SteadyFile {
     bytes: SharedBytes,
 }
 
-impl Model for MemFile {
+impl Model for SteadyFile {
     ghost use Rattle.std.specs.Prelude.{ℕ, List};
 
     ghost Value = { List ℕ };
@@ -49,21 +38,14 @@ impl Model for MemFile {
 }
 
 impl SteadyInputs {
-    /// All counts begin at 0.
-    pub(crate) fn new(alloc: Global, files: Vec<(Str, Vec<u8>)>) -> Result<SteadyInputs, NoMemory>
-        ensures { IfOk result (λ s. s ≡ new_steady (world_of files.items)) }
+    pub(crate) fn new(table: FileTable) -> SteadyInputs
+        ensures { result ≡ table }
     {
-        let files = shared(alloc, files)?;
-        Ok(SteadyInputs {
-            files,
-            misses: 0,
-            opened: 0,
-            closed: 0,
-        })
+        SteadyInputs { table }
     }
 }
 
-impl InputFile for MemFile {
+impl InputFile for SteadyFile {
     ghost held = { λ f. Some f };
 
     ghost faults = { λ f. 0 };
@@ -76,8 +58,8 @@ impl InputFile for MemFile {
     }
 
     fn read_at(&mut self, at: u64, into: &mut [u8]) -> Result<usize, Failed>
-        ensures count { result ≡ Ok (min (length self.old - at) (length into.old)) }
-        ensures bytes { IfOk result (λ n. into.new ≡ take n (drop at self.old) ++ drop n into.old) }
+        ensures count { result ≡ Ok (readable self.old at (length into.old)) }
+        ensures bytes { IfOk result (λ n. into.new ≡ filled self.old at n into.old) }
         ensures same { self.new ≡ self.old }
     {
         Ok(self.bytes.read_at(at, into))
@@ -85,39 +67,27 @@ impl InputFile for MemFile {
 }
 
 impl Inputs for SteadyInputs {
-    type File = MemFile;
+    type File = SteadyFile;
 
     ghost world = { λ s. Some s.files };
 
-    ghost faults = { λ s. 0 };
+    ghost counts = { counts_of 0 };
 
-    ghost misses = { λ s. s.misses };
-
-    ghost opened = { λ s. s.opened };
-
-    ghost closed = { λ s. s.closed };
-
-    fn open_file(&mut self, name: &str) -> Result<MemFile, OpenFault>
+    fn open_file(&mut self, name: &str) -> Result<SteadyFile, OpenFault>
         ensures bytes { IfOk result (λ f. file_of self.old.files (chars name.now) ≡ Some f) }
-        ensures missing { IsErrOf result OpenFault.Missing → file_of self.old.files (chars name.now) ≡ None }
+        ensures missing { IsErrOf result OpenFault.Missing →
+            LacksName self.old.files (chars name.now) }
         ensures never_fails { IsErrOf result OpenFault.Failed → ⊥ }
-        ensures after { self.new ≡ after_steady_open self.old result }
+        ensures after { self.new ≡ after_open self.old result }
     {
-        let Some(bytes) = find(&self.files, name) else {
-            self.misses = count_up(self.misses);
-            return Err(OpenFault::Missing);
-        };
-        let Ok(bytes) = bytes.share() else {
-            return Err(OpenFault::NoMemory);
-        };
-        self.opened = count_up(self.opened);
-        Ok(MemFile { bytes })
+        let bytes = self.table.open(name)?;
+        Ok(SteadyFile { bytes })
     }
 
-    fn close_file(&mut self, file: MemFile)
-        ensures { self.new ≡ after_steady_close self.old }
+    fn close_file(&mut self, file: SteadyFile)
+        ensures { self.new ≡ after_close self.old }
     {
-        self.closed = count_up(self.closed);
+        self.table.close();
         drop(file);
     }
 }

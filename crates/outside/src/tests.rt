@@ -74,6 +74,38 @@ fn reads_steady_files(rt: HostRuntime) -> Result<(), Fail> {
     Ok(())
 }
 
+// Each row: how many bytes a read gives at most, where it reads four bytes of "0123456789", and
+// which it gives.
+#[test]
+fn reads_slowly(rt: HostRuntime) -> Result<(), Fail> {
+    let cases = [
+        (1, 0, "0"),
+        (3, 0, "012"),
+        (4, 5, "5678"),
+        (usize::MAX, 5, "5678"),
+        (3, 8, "89"),
+        (1, 9, "9"),
+        (3, 10, ""),
+        (1, u64::MAX, ""),
+    ];
+    for (row, (most, at, want)) in cases.into_iter().enumerate() {
+        let files = two_files(rt.alloc())?;
+        assert!(rt; names_differ(&files) && most > 0);
+        let mut inputs = MemInputs::slow(rt.alloc(), files, most)?;
+        let mut file = inputs.open_file("digits")?;
+        let mut piece = [0; 4];
+        let count = file.read_at(at, &mut piece).unwrap();
+        inputs.close_file(file);
+        assert_eq!(rt; &piece[..count], want.as_bytes(), "row {row}");
+        assert_eq!(rt;
+            holds(rt.alloc(), &mut inputs, "Zürich", "lake"),
+            Ok(true),
+            "row {row}"
+        );
+    }
+    Ok(())
+}
+
 // Each row: the opens that fail, the calls that fail, and what three opens in turn then give: of a
 // missing file, of ten bytes that are read in five calls, and of four bytes in three calls.
 #[test]
@@ -122,7 +154,8 @@ fn tells_names_that_are_the_same(rt: HostRuntime) -> Result<(), Fail> {
     Ok(())
 }
 
-// Each row: a sink's room and most, what it answers to eight letters three times, and its bytes.
+// Each row: a sink's room and most, what it answers to eight letters three times, and its bytes. No
+// write changes its label.
 #[test]
 fn takes_what_it_has_room_for(rt: HostRuntime) -> Result<(), Fail> {
     let cases = [
@@ -133,17 +166,19 @@ fn takes_what_it_has_room_for(rt: HostRuntime) -> Result<(), Fail> {
         (5, 0, [Err(Failed), Err(Failed), Err(Failed)], ""),
         (0, 3, [Err(Failed), Err(Failed), Err(Failed)], ""),
     ];
-    for (room, most, answers, held) in cases {
-        let mut sink = MemSink::new(rt.alloc(), room, most)?;
+    for (row, (room, most, answers, held)) in cases.into_iter().enumerate() {
+        let mut sink = MemSink::new(rt.alloc(), room, most)?.labelled(7);
         for want in answers {
-            assert_eq!(rt; sink.write(b"abcdefgh"), want, "room {room}, most {most}");
-            assert_eq!(rt; sink.write(b""), Ok(0), "room {room}, most {most}");
+            assert_eq!(rt; sink.write(b"abcdefgh"), want, "row {row}");
+            assert_eq!(rt; sink.write(b""), Ok(0), "row {row}");
         }
-        assert_eq!(rt; sink.bytes(), held.as_bytes(), "room {room}, most {most}");
+        assert_eq!(rt; sink.bytes(), held.as_bytes(), "row {row}");
+        assert_eq!(rt; sink.label(), 7, "row {row}");
     }
     Ok(())
 }
 
+// Each row: a sink's room and most, what writing eight letters answers, and the sink's bytes.
 #[test]
 fn writes_all_or_a_part(rt: HostRuntime) -> Result<(), Fail> {
     let cases = [
@@ -154,19 +189,11 @@ fn writes_all_or_a_part(rt: HostRuntime) -> Result<(), Fail> {
         (5, 20, Err(Failed), "abcde"),
         (8, 0, Err(Failed), ""),
     ];
-    for (room, most, want, held) in cases {
+    for (row, (room, most, want, held)) in cases.into_iter().enumerate() {
         let mut sink = MemSink::new(rt.alloc(), room, most)?;
-        assert_eq!(rt;
-            write_all(&mut sink, b""),
-            Ok(()),
-            "room {room}, most {most}"
-        );
-        assert_eq!(rt;
-            write_all(&mut sink, b"abcdefgh"),
-            want,
-            "room {room}, most {most}"
-        );
-        assert_eq!(rt; sink.bytes(), held.as_bytes(), "room {room}, most {most}");
+        assert_eq!(rt; write_all(&mut sink, b""), Ok(()), "row {row}");
+        assert_eq!(rt; write_all(&mut sink, b"abcdefgh"), want, "row {row}");
+        assert_eq!(rt; sink.bytes(), held.as_bytes(), "row {row}");
     }
     Ok(())
 }

@@ -1,7 +1,7 @@
 use Rattle.std.proofs.Common.{◌-◌, length, take, drop, ap, ◌∙◌, arith, inl}
 use Rattle.std.proofs.lemmas.Grind.{common_steps}
 use Rattle.outside.specs.Counted.{appended}
-use Rattle.outside.proofs.Sinks.{appended-append, take_of_rest}
+use Rattle.outside.proofs.Sinks.{next_piece}
 use Rattle.outside.proofs.sink.write_all.Goals as goal
 
 pub loop-done-preserved : goal.loop-done-preserved
@@ -14,9 +14,9 @@ loop-done-preserved g c =
     let taken = c.in_ok-taken.taken in
     let piece = take taken (take (length bytes - done) (drop done bytes)) in record {
       within = grind (arith, common_steps);
+      label = call.label ∙ had.label;
       written = call.taken
           ∙ ap (λ w. appended w piece) had.written
-          ∙ appended-append before (take done bytes) piece
-          ∙ ap (appended before) (take_of_rest bytes done taken);
+          ∙ next_piece before bytes done taken;
       steady = call.steady (inl (omega arith)) ∙ had.steady;
     }

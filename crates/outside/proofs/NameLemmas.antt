@@ -10,10 +10,13 @@ use Rattle.std.proofs.lemmas.Bool.Decides.{same_from_decides, Decides-like, Deci
 use Rattle.std.proofs.lemmas.Bool.{not-true}
 
 -- two texts are the same exactly where their characters are
-pub bytes_eq-chars : (s t : List ℕ) → IsUtf8 s → IsUtf8 t → bytes_eq s t ≡ bytes_eq (chars s) (chars t)
+pub bytes_eq-chars : (s t : List ℕ) → IsUtf8 s → IsUtf8 t
+    → bytes_eq s t ≡ bytes_eq (chars s) (chars t)
 bytes_eq-chars s t u v =
     same_from_decides _ _
-    (Decides-like _ (ap chars) (λ e. sym (encodes-chars s u) ∙ ap encode_utf8_all e ∙ encodes-chars t v) (bytes_eq-Decides s t))
+    (Decides-like _ (ap chars)
+    (λ e. sym (encodes-chars s u) ∙ ap encode_utf8_all e ∙ encodes-chars t v)
+    (bytes_eq-Decides s t))
     (bytes_eq-Decides (chars s) (chars t))
 
 -- a test of files for names that differ
@@ -21,9 +24,12 @@ abbrev pub differ : World → Bool
 differ [] = true
 differ (f ∷ fs) = list_all (λ g. not (bytes_eq f.0 g.0)) fs && differ fs
 
-none_named : (name : List ℕ) (fs : World) → Decides (list_all (λ g. not (bytes_eq name g.0)) fs) (AllByRecursion (λ n. bytes_eq name n ≡ false) (map (λ f. f.0) fs))
+none_named : (name : List ℕ) (fs : World)
+    → Decides (list_all (λ g. not (bytes_eq name g.0)) fs)
+    (AllByRecursion (λ n. bytes_eq name n ≡ false) (map (λ f. f.0) fs))
 none_named name [] = (λ _. tt, λ _. refl)
-none_named name (f ∷ fs) = Decides-and _ _ (not-true (bytes_eq name f.0), ap not) (none_named name fs)
+none_named name (f ∷ fs) =
+    Decides-and _ _ (not-true (bytes_eq name f.0), ap not) (none_named name fs)
 
 pub differ-tells : (fs : World) → Decides (differ fs) (NamesDiffer fs)
 unfolding IsDistinct

@@ -1,0 +1,2 @@
+-- How contracts of private functions see the code.
+pub mod Parts
