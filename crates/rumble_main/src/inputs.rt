@@ -124,13 +124,12 @@ impl<R: Files<File = File>> Inputs for FileInputs<'_, R> {
 
     ghost world = { λ _. None };
 
-    ghost faults = { λ s. s.faults };
-
-    ghost misses = { λ s. s.misses };
-
-    ghost opened = { λ s. s.opened };
-
-    ghost closed = { λ s. s.closed };
+    ghost counts = { λ s. record {
+      faults = s.faults;
+      misses = s.misses;
+      opened = s.opened;
+      closed = s.closed;
+    } };
 
     fn open_file(&mut self, name: &str) -> Result<FileInput, OpenFault> {
         match open_source(self.rt, &mut self.kept, name) {

@@ -46,24 +46,15 @@ impl Kept {
     pub(crate) fn keep(&mut self, name: &str, bytes: Vec<u8>) -> Result<KeptFile, OpenFault> {
         let mut files = one_file(self.alloc, name, bytes)?;
         let file = files.open_file(name)?;
-        if self.files.push(files).is_err() {
-            return Err(OpenFault::NoMemory);
-        }
+        self.files.push(files)?;
         Ok(file)
     }
 }
 
 fn one_file(alloc: Global, name: &str, bytes: Vec<u8>) -> Result<SteadyInputs, OpenFault> {
-    let Ok(name) = Str::of(alloc, name) else {
-        return Err(OpenFault::NoMemory);
-    };
-    let Ok(files) = vec![in alloc; (name, bytes)] else {
-        return Err(OpenFault::NoMemory);
-    };
-    match MemInputs::steady(alloc, files) {
-        Ok(files) => Ok(files),
-        Err(_) => Err(OpenFault::NoMemory),
-    }
+    let name = Str::of(alloc, name)?;
+    let files = vec![in alloc; (name, bytes)]?;
+    Ok(MemInputs::steady(alloc, files)?)
 }
 
 /// All bytes that are still to come.

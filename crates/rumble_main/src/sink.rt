@@ -4,7 +4,7 @@ use outside::{Failed, Sink};
 use std::io;
 use std::io::Write;
 
-/// A standard stream of the program. It counts its faults and tells no bytes.
+/// A standard stream of the program. It counts its faults and tells no bytes, and its label is 0.
 #[derive(Drop)]
 pub struct StdSink<W> {
     stream: W,
@@ -19,6 +19,8 @@ impl<W> StdSink<W> {
 }
 
 impl<W: Write> Sink for StdSink<W> {
+    ghost label = { λ _. 0 };
+
     ghost wrote = { λ _. None };
 
     ghost faults = { λ s. s.faults };

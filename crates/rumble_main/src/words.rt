@@ -1,6 +1,6 @@
-use item_tree::Str;
+use item_tree::{NoMemory, Str};
 use std::alloc::Global;
-use std::env::Env;
+use std::env::{Args, Env};
 use std::{env, io};
 
 /// Why the words of the command line were not read.
@@ -11,6 +11,22 @@ pub enum WordFault {
     NoMemory,
 }
 
+impl From<NoMemory> for WordFault {
+    fn from(_e: NoMemory) -> WordFault {
+        WordFault::NoMemory
+    }
+}
+
+// The words behind the first.
+fn words_of(alloc: Global, arguments: Args<Global>) -> Result<Vec<Str>, NoMemory> {
+    let mut words = Vec::new(alloc);
+    for argument in arguments.skip(1) {
+        let word = Str::of(alloc, argument.as_str())?;
+        words.push(word)?;
+    }
+    Ok(words)
+}
+
 /// The words of the command line, behind the program's own name.
 pub fn words<R: Env + AllocGlobal>(rt: &R, alloc: Global) -> Result<Vec<Str>, WordFault> {
     let arguments = match env::args(rt) {
@@ -18,14 +34,6 @@ pub fn words<R: Env + AllocGlobal>(rt: &R, alloc: Global) -> Result<Vec<Str>, Wo
         Err(fault) if fault.kind() == io::ErrorKind::OutOfMemory => return Err(WordFault::NoMemory),
         Err(_) => return Err(WordFault::NoText),
     };
-    let mut words = Vec::new(alloc);
-    for argument in arguments.skip(1) {
-        let Ok(word) = Str::of(alloc, argument.as_str()) else {
-            return Err(WordFault::NoMemory);
-        };
-        if words.push(word).is_err() {
-            return Err(WordFault::NoMemory);
-        }
-    }
+    let words = words_of(alloc, arguments)?;
     Ok(words)
 }

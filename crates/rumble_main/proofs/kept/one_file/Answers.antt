@@ -6,4 +6,4 @@ use Rattle.rumble_main.proofs.kept.one_file.Goals as goal
 
 pub steady-requires : goal.steady-requires
 unfolding IsDistinct
-steady-requires c = subst (λ fs. NamesDiffer (world_of fs)) (sym c.in-Ok-vec.ensures.items) (tt, tt)
+steady-requires c = subst (λ fs. NamesDiffer (world_of fs)) (sym c.in_ok-files.ensures.items) (tt, tt)
