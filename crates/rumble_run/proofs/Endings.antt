@@ -3,6 +3,7 @@ use Rattle.std.proofs.Common.{◌≡◌, ℕ, List, ◌++◌, Option, None, Some
 use Rattle.std.specs.Prelude.{IfSome, IfOk}
 use Rattle.std.specs.Str.{encode_utf8_all}
 use Rattle.item_tree.specs.Datum.{Datum}
+use Rattle.item_tree.specs.Faults.{fault_at}
 use Rattle.item_tree.specs.declared.code.Code.TheVariants.{PJST0099}
 use Rattle.item_tree.specs.declared.fault.Fault.{Fault}
 use Rattle.item_reader.specs.Lines.{without_mark}
@@ -36,14 +37,14 @@ of_accepted a e = subst IsOf (sym e) refl
 
 of_items : (text : List ℕ) (r : Result (List Datum) Fault) → IsOf (of_result text r)
 of_items text (Ok items) = refl
-of_items text (Err fault) = ((fault.code, line_of text fault.place, column_of text fault.place, refl), refl)
+of_items text (Err fault) = ((fault.code, line_of text fault.place, column_of text fault.place, fault.spot, refl), refl)
 
 pub of_input_items : (a : Answer) (text : List ℕ) (r : Result (List Datum) Fault) → a ≡ of_result text r → IsOf a
 of_input_items a text r e = subst IsOf (sym e) (of_items text r)
 
 -- ---- the answer to a tree
 
-pub run_unbuilt : (a : Answer) (text : List ℕ) (tree : BoundTrees) (world : Option World) → None ≡ input_of tree → a ≡ refused text (record { code = PJST0099; place = 0 }) → IfSome world (λ w. a ≡ of_tree Run text w tree)
+pub run_unbuilt : (a : Answer) (text : List ℕ) (tree : BoundTrees) (world : Option World) → None ≡ input_of tree → a ≡ refused text (fault_at PJST0099 0) → IfSome world (λ w. a ≡ of_tree Run text w tree)
 run_unbuilt a text tree None is e = tt
 run_unbuilt a text tree (Some w) is e = e ∙ ap (of_run text w) is
 
@@ -97,10 +98,10 @@ answer_read a words task name query o world after q m is same h = go world (subs
 
 -- ---- shapes
 
-pub shaped_query : (name : List ℕ) (a : Answer) → IsOf a → IsShaped (Some name) a
-shaped_query name a h = go a.out a.err a.status h
+pub shaped_query : (command : Option (Task × List ℕ)) (a : Answer) → IsOf a → IsShaped command a
+shaped_query command a h = go a.out a.err a.status h
   where
-    go : (out err : List ℕ) (s : Status) → IsOfStatus out err s → IsShaped (Some name) (record { status = s; out = out; err = err })
+    go : (out err : List ℕ) (s : Status) → IsOfStatus out err s → IsShaped command (record { status = s; out = out; err = err })
     go out err Done h = record { text = h; silent = tt; usage = tt }
     go out err Raised h = record { text = h.0; silent = h.1; usage = tt }
     go out err Refused h = record { text = h.0; silent = h.1; usage = tt }

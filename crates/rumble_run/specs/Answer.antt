@@ -1,11 +1,14 @@
 -- The answer to a command line over a world of inputs: a status, with the bytes for the output and for the errors.
 use Rattle.std.specs.Prelude.{◌≡◌, ℕ, List, [], ◌∷◌, ◌++◌, Option, None, Some, IfSome, Result, Ok, Err, codes}
+use Rattle.std.specs.Fmt.{decimal}
 use Rattle.std.specs.Str.{encode_utf8_all}
 use Rattle.item_tree.specs.declared.code.Code.{Code}
 use Rattle.item_tree.specs.declared.code.Code.TheVariants.{FODC0002, PJST0099}
 use Rattle.item_tree.specs.declared.fault.Fault.{Fault}
+use Rattle.item_tree.specs.declared.fault.Spot.{Spot}
 use Rattle.item_tree.specs.Codes.{code_text}
 use Rattle.item_tree.specs.Datum.{Datum}
+use Rattle.item_tree.specs.Faults.{fault_at}
 use Rattle.item_tree.specs.ItemText.{item_text}
 use Rattle.item_reader.specs.Lines.{without_mark}
 use Rattle.item_reader.specs.Reading.{items_of}
@@ -41,8 +44,13 @@ fault_text text fault = code_text fault.code ++ codes " at " ++ place_text text 
 abbrev pub refused : List ℕ → Fault → Answer
 refused text fault = says Refused (codes "refused " ++ fault_text text fault)
 
+-- the clause and the tuple of a FLWOR expression that a fault left, after one space
+abbrev pub spot_text : Option Spot → List ℕ
+spot_text None = []
+spot_text (Some s) = codes " clause " ++ decimal s.clause ++ codes " tuple " ++ decimal s.tuple
+
 abbrev pub raised : List ℕ → Fault → Answer
-raised text fault = says Raised (codes "raised " ++ fault_text text fault)
+raised text fault = says Raised (codes "raised " ++ fault_text text fault ++ spot_text fault.spot)
 
 -- an answer that writes something
 abbrev pub writes : List ℕ → Answer
@@ -62,7 +70,7 @@ prints items = writes (output_of items)
 -- what `json-lines` at this place gives, by the bytes of its input
 abbrev pub at_place : ℕ → Result (List Datum) Code → Result (List Datum) Fault
 at_place place (Ok items) = Ok items
-at_place place (Err code) = Err (record { code = code; place = place })
+at_place place (Err code) = Err (fault_at code place)
 
 abbrev pub input_items : ℕ → Option (List ℕ) → Result (List Datum) Fault
 input_items place None = at_place place (Err FODC0002)
@@ -74,7 +82,7 @@ of_result text (Err fault) = raised text fault
 
 -- a query that is run: its input's items, or it is not built yet
 abbrev pub of_run : List ℕ → World → Option (Name × ℕ) → Answer
-of_run text world None = refused text (record { code = PJST0099; place = 0 })
+of_run text world None = refused text (fault_at PJST0099 0)
 of_run text world (Some input) = of_result text (input_items input.1 (file_of world input.0))
 
 abbrev pub of_tree : Task → List ℕ → World → BoundTrees → Answer

@@ -1,5 +1,5 @@
 -- The table of words: `run QUERY` and `check QUERY`.
-use Rattle.std.specs.Prelude.{ℕ, List, [], ◌∷◌, Option, None, Some, option_map, Bool, ◌==◌, if◌then◌else◌, codes, slice_index}
+use Rattle.std.specs.Prelude.{ℕ, List, [], ◌∷◌, Option, None, Some, Bool, ◌==◌, if◌then◌else◌, codes, slice_index}
 use Rattle.std.specs.Str.{bytes_eq}
 use Rattle.rumble_run.specs.declared.words.Task.{Task}
 use Rattle.rumble_run.specs.declared.words.Task.TheVariants.{Run, Check}
@@ -19,7 +19,3 @@ with_query query (Some task) = if begins_with_dash query then None else Some (ta
 abbrev pub command_of : List (List ℕ) → Option (Task × List ℕ)
 command_of (word ∷ query ∷ []) = with_query query (task_of word)
 command_of _ = None
-
--- the query that the words name
-abbrev pub query_of : List (List ℕ) → Option (List ℕ)
-query_of words = option_map (λ command. command.1) (command_of words)

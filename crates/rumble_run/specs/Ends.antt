@@ -3,10 +3,12 @@ use Rattle.std.specs.Prelude.{◌≡◌, ◌<◌, ◌≤◌, ◌⊎◌, ◌+◌,
 use Rattle.std.specs.Fmt.{decimal}
 use Rattle.std.specs.Str.{encode_utf8_all}
 use Rattle.item_tree.specs.declared.code.Code.{Code}
+use Rattle.item_tree.specs.declared.fault.Spot.{Spot}
 use Rattle.item_tree.specs.Codes.{code_text}
 use Rattle.outside.specs.Counted.{Rose, RoseByOne, appended, CutShort}
-use Rattle.rumble_run.specs.Answer.{Answer, lined, usage}
+use Rattle.rumble_run.specs.Answer.{Answer, lined, spot_text, usage}
 use Rattle.rumble_run.specs.declared.status.Status.{Status}
+use Rattle.rumble_run.specs.declared.words.Task.{Task}
 use Rattle.rumble_run.specs.declared.status.Status.TheVariants.{Done, Raised, Refused, Usage, ReadFault, WriteFault, NoMemory, NoQuery}
 
 -- the status is the answer's; or writing its output failed, reading failed, or memory was short
@@ -29,21 +31,38 @@ err_by text WriteFault = lined (codes "write fault")
 err_by text NoMemory = lined (codes "no memory")
 err_by text _ = text
 
--- a text in the form `WORD CODE at LINE:COLUMN`
-abbrev pub TellsFault : List ℕ → List ℕ → Type 0
-TellsFault word text =
-    (code : Code) × (line : ℕ) × (column : ℕ) × (text ≡ lined (word ++ (code_text code ++ codes " at " ++ (decimal line ++ 58 ∷ decimal column))))
+-- a code and where it stands, as `CODE at LINE:COLUMN`
+abbrev pub code_at : Code → ℕ → ℕ → List ℕ
+code_at code line column = code_text code ++ codes " at " ++ (decimal line ++ 58 ∷ decimal column)
 
--- the form of the text for the errors that a status has, whatever the world; the name is the query's
-abbrev pub HasText : Option (List ℕ) → List ℕ → Status → Type 0
-HasText name text Done = text ≡ []
-HasText name text Raised = TellsFault (codes "raised ") text
-HasText name text Refused = TellsFault (codes "refused ") text
-HasText name text Usage = text ≡ usage.err
-HasText name text ReadFault = text ≡ lined (codes "read fault")
-HasText name text WriteFault = text ≡ lined (codes "write fault")
-HasText name text NoMemory = text ≡ lined (codes "no memory")
-HasText name text NoQuery = (query : List ℕ) × (name ≡ Some query) × (text ≡ lined (codes "no query " ++ encode_utf8_all query))
+-- a text in the form `refused CODE at LINE:COLUMN`
+abbrev pub TellsRefusal : List ℕ → Type 0
+TellsRefusal text =
+    (code : Code) × (line : ℕ) × (column : ℕ)
+    × (text ≡ lined (codes "refused " ++ code_at code line column))
+
+-- a text in the form `raised CODE at LINE:COLUMN`, with a spot after it where there is one
+abbrev pub TellsError : List ℕ → Type 0
+TellsError text =
+    (code : Code) × (line : ℕ) × (column : ℕ) × (spot : Option Spot)
+    × (text ≡ lined (codes "raised " ++ code_at code line column ++ spot_text spot))
+
+-- the query that is missing is the command's
+abbrev pub TellsNoQuery : Option (Task × List ℕ) → List ℕ → Type 0
+TellsNoQuery command text =
+    (task : Task) × (name : List ℕ) × (command ≡ Some (task, name))
+    × (text ≡ lined (codes "no query " ++ encode_utf8_all name))
+
+-- the form of the text for the errors that a status has, by the command and whatever the world
+abbrev pub HasText : Option (Task × List ℕ) → List ℕ → Status → Type 0
+HasText command text Done = text ≡ []
+HasText command text Raised = TellsError text
+HasText command text Refused = TellsRefusal text
+HasText command text Usage = text ≡ usage.err
+HasText command text ReadFault = text ≡ lined (codes "read fault")
+HasText command text WriteFault = text ≡ lined (codes "write fault")
+HasText command text NoMemory = text ≡ lined (codes "no memory")
+HasText command text NoQuery = TellsNoQuery command text
 
 -- the text is added whole and no fault is counted, or it is cut short and one is
 abbrev pub Wrote : List ℕ → Option (List ℕ) → Option (List ℕ) → ℕ → ℕ → Type 0

@@ -4,6 +4,7 @@ use Rattle.std.specs.Str.{IsUtf8}
 use Rattle.item_tree.specs.declared.code.Code.{Code}
 use Rattle.item_tree.specs.declared.code.Code.TheVariants.{XPST0003, PJST0005}
 use Rattle.item_tree.specs.declared.fault.Fault.{Fault}
+use Rattle.item_tree.specs.Faults.{fault_at}
 use Rattle.item_reader.specs.Lines.{without_mark}
 use Rattle.query_lexer.specs.Lexes.{Tokens, Refused}
 use Rattle.query_lexer.specs.declared.token.Token.{Token}
@@ -24,7 +25,7 @@ abbrev pub Front : Type 0
 Front = Result BoundTrees Fault
 
 abbrev pub refused_at : Code → ℕ → Front
-refused_at code place = Err (record { code = code; place = place })
+refused_at code place = Err (fault_at code place)
 
 -- the first so many bytes are the longest beginning that is UTF-8, and more bytes follow: the first of
 -- them is part of no character

@@ -9,6 +9,7 @@ use Rattle.rumble_run.specs.declared.front.FrontFault.{FrontFault}
 use Rattle.rumble_run.specs.declared.front.FrontFault.TheVariants as front
 use Rattle.rumble_run.specs.declared.status.Status.{Status}
 use Rattle.rumble_run.specs.declared.status.Status.TheVariants.{Done, Raised, Refused, Usage, ReadFault, WriteFault, NoMemory}
+use Rattle.rumble_run.specs.declared.words.Task.{Task}
 use Rattle.rumble_run.specs.declared.ending.Ending.{Ending}
 
 -- the ending as an answer
@@ -24,15 +25,15 @@ IsSilent out NoMemory = ⊥
 IsSilent out _ = out ≡ []
 
 -- usage is for words outside the table alone
-abbrev pub IsUsage : Option (List ℕ) → Status → Type 0
-IsUsage name Usage = name ≡ None
-IsUsage name _ = Unit {0}
+abbrev pub IsUsage : Option (Task × List ℕ) → Status → Type 0
+IsUsage command Usage = command ≡ None
+IsUsage command _ = Unit {0}
 
 -- an ending that was decided: its text has its status's form, only Done has output, and no fault is among them
-pub record IsShaped (name : Option (List ℕ)) (a : Answer) : Type 0 where
-  pub text : HasText name a.err a.status
+pub record IsShaped (command : Option (Task × List ℕ)) (a : Answer) : Type 0 where
+  pub text : HasText command a.err a.status
   pub silent : IsSilent a.out a.status
-  pub usage : IsUsage name a.status
+  pub usage : IsUsage command a.status
 
 -- what a query that was read comes to: items, or a fault or a refusal with its code
 abbrev pub IsOfStatus : List ℕ → List ℕ → Status → Type 0

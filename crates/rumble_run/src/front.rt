@@ -1,4 +1,5 @@
 ghost use Rattle.std.specs.Prelude.{◌≡◌, IfSome};
+ghost use Rattle.item_tree.specs.Faults.{fault_at};
 ghost use Rattle.static_rules.specs.Outcomes.{named_query};
 ghost use Rattle.rumble_run.specs.Front.{IsFront, IsFrontOfText, static_front};
 ghost use Rattle.rumble_run.specs.Seen.{front_of};
@@ -24,9 +25,9 @@ pub(crate) enum FrontFault {
 }
 
 fn refused(code: Code, place: u32) -> FrontFault
-    ensures { result ≡ FrontFault.Refused (record { code = code; place = place }) }
+    ensures { result ≡ FrontFault.Refused (fault_at code place) }
 {
-    FrontFault::Refused(Fault { code, place })
+    FrontFault::Refused(Fault::at(code, place))
 }
 
 // The compiled tree of a query, or its static refusal.

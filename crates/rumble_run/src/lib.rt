@@ -5,7 +5,7 @@
 ghost use Rattle.std.specs.Prelude.{◌≡◌, ◌≢◌, ◌≤◌, ◌<◌, ◌⊎◌, ℕ, List, None};
 ghost use Rattle.outside.specs.Counted.{Rose};
 ghost use Rattle.rumble_run.specs.Answer.{OfAnswer};
-ghost use Rattle.rumble_run.specs.Command.{query_of};
+ghost use Rattle.rumble_run.specs.Command.{command_of};
 ghost use Rattle.rumble_run.specs.Ends.{StatusBy, OutBy, err_by, HasText, Wrote, IsBalanced, Calm, Completes, OpensBy};
 
 mod built;
@@ -24,6 +24,7 @@ mod rule_tests;
 mod status;
 #[cfg(test)]
 mod tests;
+mod texts;
 mod words;
 
 use crate::decide::decide;
@@ -58,11 +59,13 @@ pub fn rumble<R: Threads + Wait + Sync, I: Inputs, O: Sink, E: Sink, G: Gate>(
 
     // Over any others, what is written has the status's form.
     ensures untold_output { (bytes : List ℕ) × OutBy bytes result (O.wrote out.old) (O.wrote out.new) }
-    ensures untold_text { (text : List ℕ) × HasText (query_of words.now) text result × Wrote text (E.wrote err.old) (E.wrote err.new) (E.faults err.old) (E.faults err.new) }
+    ensures untold_text { (text : List ℕ) × HasText (command_of words.now) text result
+        × Wrote text (E.wrote err.old) (E.wrote err.new) (E.faults err.old) (E.faults err.new) }
 
     // When each fault is answered.
-    ensures usage { result ≡ Status.Usage → query_of words.now ≡ None }
-    ensures only_usage { query_of words.now ≡ None → (result ≡ Status.Usage) ⊎ (result ≡ Status.NoMemory) }
+    ensures usage { result ≡ Status.Usage → command_of words.now ≡ None }
+    ensures only_usage { command_of words.now ≡ None →
+        (result ≡ Status.Usage) ⊎ (result ≡ Status.NoMemory) }
     ensures no_query { result ≡ Status.NoQuery → Rose (I.misses inputs.old) (I.misses inputs.new) }
     ensures read_fault { result ≡ Status.ReadFault → Rose (I.faults inputs.old) (I.faults inputs.new) }
     ensures read_first { I.faults inputs.old < I.faults inputs.new → (result ≡ Status.ReadFault) ⊎ (result ≡ Status.NoMemory) }

@@ -9,6 +9,9 @@ use crate::status::Stop;
 use outside::{InputFile, Inputs, OpenFault};
 use std::alloc::Global;
 
+// How many bytes are asked for at once.
+const READ_SIZE: usize = 65_536;
+
 // All bytes of a file. A read that gives none before the length ends the file there.
 fn read_whole<F: InputFile>(alloc: Global, file: &mut F) -> Result<Vec<u8>, Stop>
     ensures bytes { IfOk result (λ v. IfSome (F.held file.old) (λ b. v.items ≡ b)) }
@@ -18,18 +21,19 @@ fn read_whole<F: InputFile>(alloc: Global, file: &mut F) -> Result<Vec<u8>, Stop
     let Ok(length) = file.len() else {
         return Err(Stop::ReadFault);
     };
-    let mut bytes = Vec::new(alloc);
-    let mut buffer = [0u8; 4096];
+    let Ok(room) = usize::try_from(length) else {
+        return Err(Stop::NoMemory);
+    };
+    let mut bytes = Vec::with_capacity(alloc, room)?;
+    let mut buffer = vec![in alloc; 0u8; READ_SIZE]?;
     'reading: while (bytes.len() as u64) < length {
-        let Ok(count) = file.read_at(bytes.len() as u64, &mut buffer) else {
+        let Ok(count) = file.read_at(bytes.len() as u64, buffer.as_mut_slice()) else {
             return Err(Stop::ReadFault);
         };
         if count == 0 {
             return Ok(bytes);
         }
-        if bytes.extend_from_slice(&buffer[..count]).is_err() {
-            return Err(Stop::NoMemory);
-        }
+        bytes.extend_from_slice(&buffer[..count])?;
     }
     Ok(bytes)
 }

@@ -1,0 +1,119 @@
+//! Endings, by what they tell or write.
+
+ghost use Rattle.std.specs.Prelude.{◌≡◌, [], ◌++◌, IfOk, codes, string_bytes};
+ghost use Rattle.std.specs.Str.{encode_utf8_all};
+ghost use Rattle.item_tree.specs.Item.{datums};
+ghost use Rattle.rumble_run.specs.Answer.{says, writes, prints, refused, raised, fault_text, spot_text, accepted, usage};
+ghost use Rattle.rumble_run.specs.Seen.{answer_of};
+
+use crate::ending::Ending;
+use crate::place::line_column;
+use crate::print::print_items;
+use crate::status::Status;
+use item_tree::{Fault, Item, NoMemory, Spot, Str};
+use std::alloc::{AllocError, Global};
+
+// The words that the program knows.
+const USAGE: &str = "usage: rumble run QUERY | check QUERY | explain QUERY | trial NUMBER LINES\n";
+
+/// What `check` writes for a query that is accepted.
+const ACCEPTED: &[u8] = b"accepted\n";
+
+// An ending that only tells something.
+fn says(alloc: Global, status: Status, text: String) -> Ending
+    ensures { answer_of result ≡ record { status = status; out = []; err = string_bytes text } }
+{
+    Ending {
+        status,
+        out: Vec::new(alloc),
+        err: text,
+    }
+}
+
+/// The words are of no command.
+pub(crate) fn tells_usage(alloc: Global) -> Result<Ending, AllocError>
+    ensures { IfOk result (λ e. answer_of e ≡ usage) }
+{
+    let text = String::from_str(alloc, USAGE)?;
+    Ok(says(alloc, Status::Usage, text))
+}
+
+/// There is no query of this name.
+pub(crate) fn tells_no_query(alloc: Global, name: &Str) -> Result<Ending, AllocError>
+    ensures { IfOk result (λ e.
+        answer_of e ≡ says Status.NoQuery (codes "no query " ++ encode_utf8_all name.now)) }
+{
+    let name = name.as_str();
+    let text = format!(in alloc; "no query {name}\n")?;
+    Ok(says(alloc, Status::NoQuery, text))
+}
+
+// A fault of a query's text, which stands behind a byte order mark.
+fn fault_text(alloc: Global, text: &[u8], fault: &Fault) -> Result<String, AllocError>
+    ensures { IfOk result (λ s. string_bytes s ≡ fault_text text.now fault.now) }
+{
+    let code = fault.code.text();
+    let at = line_column(text, fault.place);
+    let line = at.line;
+    let column = at.column;
+    format!(in alloc; "{code} at {line}:{column}")
+}
+
+// The clause and the tuple that a fault left.
+fn spot_text(alloc: Global, spot: Option<Spot>) -> Result<String, AllocError>
+    ensures { IfOk result (λ s. string_bytes s ≡ spot_text spot) }
+{
+    match spot {
+        None => Ok(String::new(alloc)),
+        Some(Spot { clause, tuple }) => format!(in alloc; " clause {clause} tuple {tuple}"),
+    }
+}
+
+/// The query is refused.
+pub(crate) fn tells_refusal(alloc: Global, text: &[u8], fault: &Fault) -> Result<Ending, AllocError>
+    ensures { IfOk result (λ e. answer_of e ≡ refused text.now fault.now) }
+{
+    let fault = fault_text(alloc, text, fault)?;
+    let fault = fault.as_str();
+    let text = format!(in alloc; "refused {fault}\n")?;
+    Ok(says(alloc, Status::Refused, text))
+}
+
+/// The query raised an error.
+pub(crate) fn tells_error(alloc: Global, text: &[u8], fault: &Fault) -> Result<Ending, AllocError>
+    ensures { IfOk result (λ e. answer_of e ≡ raised text.now fault.now) }
+{
+    let spot = spot_text(alloc, fault.spot)?;
+    let fault = fault_text(alloc, text, fault)?;
+    let fault = fault.as_str();
+    let spot = spot.as_str();
+    let text = format!(in alloc; "raised {fault}{spot}\n")?;
+    Ok(says(alloc, Status::Raised, text))
+}
+
+// An ending that writes something.
+fn writes(alloc: Global, out: Vec<u8>) -> Ending
+    ensures { answer_of result ≡ writes out.items }
+{
+    Ending {
+        status: Status::Done,
+        out,
+        err: String::new(alloc),
+    }
+}
+
+/// The query is accepted.
+pub(crate) fn accepts(alloc: Global) -> Result<Ending, AllocError>
+    ensures { IfOk result (λ e. answer_of e ≡ accepted) }
+{
+    let out = ACCEPTED.to_vec(alloc)?;
+    Ok(writes(alloc, out))
+}
+
+/// The query's items are printed.
+pub(crate) fn prints(alloc: Global, items: &[Item]) -> Result<Ending, NoMemory>
+    ensures { IfOk result (λ e. answer_of e ≡ prints (datums items.now)) }
+{
+    let out = print_items(alloc, items)?;
+    Ok(writes(alloc, out))
+}
