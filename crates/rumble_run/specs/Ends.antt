@@ -6,6 +6,7 @@ use Rattle.item_tree.specs.declared.code.Code.{Code}
 use Rattle.item_tree.specs.declared.fault.Spot.{Spot}
 use Rattle.item_tree.specs.Codes.{code_text}
 use Rattle.outside.specs.Counted.{Rose, RoseByOne, appended, CutShort}
+use Rattle.outside.specs.Opens.{InputCounts}
 use Rattle.rumble_run.specs.Answer.{Answer, lined, spot_text, usage}
 use Rattle.rumble_run.specs.declared.status.Status.{Status}
 use Rattle.rumble_run.specs.declared.words.Task.{Task}
@@ -70,11 +71,29 @@ Wrote text before after faults faults_after =
     ((after ≡ appended before text) × (faults_after ≡ faults))
     ⊎ (CutShort text before after × Rose faults faults_after)
 
+-- no count falls
+pub record NoCountFalls (before after : InputCounts) : Type 0 where
+  pub faults : before.faults ≤ after.faults
+  pub misses : before.misses ≤ after.misses
+  pub opened : before.opened ≤ after.opened
+  pub closed : before.closed ≤ after.closed
+
 -- as many files were closed as were opened
-pub record IsBalanced (opened closed opened_after closed_after : ℕ) : Type 0 where
-  pub opened_rises : opened ≤ opened_after
-  pub closed_rises : closed ≤ closed_after
-  pub same : opened_after < 2 ^ 64 - 1 → closed_after < 2 ^ 64 - 1 → opened_after + closed ≡ opened + closed_after
+pub record IsBalanced (before after : InputCounts) : Type 0 where
+  pub same : after.opened < 2 ^ 64 - 1 → after.closed < 2 ^ 64 - 1
+      → after.opened + before.closed ≡ before.opened + after.closed
+
+-- an open, or a call on a file, failed
+abbrev pub FaultsRose : InputCounts → InputCounts → Type 0
+FaultsRose before after = Rose before.faults after.faults
+
+-- there was no file of a name
+abbrev pub MissesRose : InputCounts → InputCounts → Type 0
+MissesRose before after = Rose before.misses after.misses
+
+-- no file was given out, and none was missing
+abbrev pub LooksForNone : InputCounts → InputCounts → Type 0
+LooksForNone before after = (after.opened ≡ before.opened) × (after.misses ≡ before.misses)
 
 -- a count of faults that did not rise
 abbrev pub Calm : ℕ → ℕ → Type 0
@@ -84,9 +103,11 @@ Calm before after = (after ≤ before) × (after < 2 ^ 64 - 1)
 abbrev pub Completes : Answer → Status → Type 0
 Completes a status = (status ≡ NoMemory) ⊎ (status ≡ a.status)
 
--- which files were looked for: with a refusal the query's alone, which was there; with a missing query that one; without a command none
-abbrev pub OpensBy : Status → ℕ → ℕ → ℕ → ℕ → Type 0
-OpensBy Refused opened opened_after misses misses_after = RoseByOne opened opened_after × (misses_after ≡ misses)
-OpensBy Usage opened opened_after misses misses_after = (opened_after ≡ opened) × (misses_after ≡ misses)
-OpensBy NoQuery opened opened_after misses misses_after = (opened_after ≡ opened) × Rose misses misses_after
-OpensBy _ opened opened_after misses misses_after = Unit {0}
+-- which files were looked for: with a refusal the query's alone, which was there; with a missing
+-- query that one; without a command none
+abbrev pub OpensBy : Status → InputCounts → InputCounts → Type 0
+OpensBy Refused before after =
+    RoseByOne before.opened after.opened × (after.misses ≡ before.misses)
+OpensBy Usage before after = LooksForNone before after
+OpensBy NoQuery before after = (after.opened ≡ before.opened) × MissesRose before after
+OpensBy _ before after = Unit {0}

@@ -1,13 +1,16 @@
 -- How contracts see an ending, and a front.
-use Rattle.std.specs.Prelude.{◌≡◌, ℕ, List, [], Option, None, Some, Result, Ok, Err, string_bytes}
+use Rattle.std.specs.Prelude.{◌≡◌, ℕ, List, [], Option, None, Some, Result, Ok, Err, IfOk, string_bytes}
 use Rattle.outside.specs.Counted.{Rose}
+use Rattle.outside.specs.Opens.{InputCounts}
 use Rattle.query_tree.specs.Compiled.{BoundTrees, CompiledTree, bound_trees}
 use Rattle.rumble_run.specs.Answer.{Answer}
-use Rattle.rumble_run.specs.Ends.{HasText}
+use Rattle.rumble_run.specs.Ends.{HasText, LooksForNone}
 use Rattle.rumble_run.specs.Front.{Front}
 use Rattle.rumble_run.specs.declared.front.FrontFault.{FrontFault}
 use Rattle.rumble_run.specs.declared.front.FrontFault.TheVariants as front
+use Rattle.rumble_run.specs.Reads.{Leaves}
 use Rattle.rumble_run.specs.declared.status.Status.{Status}
+use Rattle.rumble_run.specs.declared.status.Stop.{Stop}
 use Rattle.rumble_run.specs.declared.status.Status.TheVariants.{Done, Raised, Refused, Usage, ReadFault, WriteFault, NoMemory}
 use Rattle.rumble_run.specs.declared.words.Task.{Task}
 use Rattle.rumble_run.specs.declared.ending.Ending.{Ending}
@@ -56,3 +59,8 @@ abbrev pub front_of : Result CompiledTree FrontFault → Option Front
 front_of (Ok query) = Some (Ok (plain_of query))
 front_of (Err (front.Refused fault)) = Some (Err fault)
 front_of (Err front.NoMemory) = None
+
+-- what a run of a query that was read leaves of the counts; with a refusal no file was looked for
+pub record LeavesRun (result : Result Ending Stop) (before after : InputCounts) : Type 0 where
+  pub leaves : Leaves result before after
+  pub refused : IfOk result (λ e. e.status ≡ Refused → LooksForNone before after)

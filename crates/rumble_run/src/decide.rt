@@ -1,9 +1,9 @@
 ghost use Rattle.std.specs.Prelude.{◌≡◌, ◌≢◌, ◌≤◌, None, IfOk, IfErr, IfSome, option_map, string_bytes, IsErrOf};
 ghost use Rattle.rumble_run.specs.Answer.{IsAnswer, IsOfQuery, of_result, of_tree, input_items, usage};
 ghost use Rattle.rumble_run.specs.Command.{command_of};
-ghost use Rattle.rumble_run.specs.Ends.{IsBalanced, OpensBy};
-ghost use Rattle.rumble_run.specs.Reads.{CausedBy};
-ghost use Rattle.rumble_run.specs.Seen.{answer_of, IsShaped, IsOfStatus, plain_of};
+ghost use Rattle.rumble_run.specs.Ends.{OpensBy};
+ghost use Rattle.rumble_run.specs.Reads.{Leaves};
+ghost use Rattle.rumble_run.specs.Seen.{answer_of, IsShaped, IsOfStatus, LeavesRun, plain_of};
 
 use crate::built::input_of;
 use crate::ending::Ending;
@@ -53,10 +53,7 @@ fn of_run<I: Inputs>(
     ensures world { I.world inputs.new ≡ I.world inputs.old }
     ensures value { IfOk result (λ e. IfSome (I.world inputs.old) (λ w. answer_of e ≡ of_tree Task.Run text.now w (plain_of query.now))) }
     ensures shape { IfOk result (λ e. IsOfStatus e.out.items (string_bytes e.err) e.status) }
-    ensures cause { CausedBy result (I.faults inputs.old) (I.faults inputs.new) }
-    ensures rises { I.faults inputs.old ≤ I.faults inputs.new }
-    ensures refused { IfOk result (λ e. e.status ≡ Status.Refused → (I.opened inputs.new ≡ I.opened inputs.old) × (I.misses inputs.new ≡ I.misses inputs.old)) }
-    ensures balanced { IsBalanced (I.opened inputs.old) (I.closed inputs.old) (I.opened inputs.new) (I.closed inputs.new) }
+    ensures counts { LeavesRun result (I.counts inputs.old) (I.counts inputs.new) }
 {
     let Some((name, place)) = input_of(query) else {
         return Ok(tells_refusal(alloc, text, &Fault::at(Code::PJST0099, 0))?);
@@ -77,10 +74,7 @@ fn of_tree<I: Inputs>(
     ensures world { I.world inputs.new ≡ I.world inputs.old }
     ensures value { IfOk result (λ e. IfSome (I.world inputs.old) (λ w. answer_of e ≡ of_tree task text.now w (plain_of query.now))) }
     ensures shape { IfOk result (λ e. IsOfStatus e.out.items (string_bytes e.err) e.status) }
-    ensures cause { CausedBy result (I.faults inputs.old) (I.faults inputs.new) }
-    ensures rises { I.faults inputs.old ≤ I.faults inputs.new }
-    ensures refused { IfOk result (λ e. e.status ≡ Status.Refused → (I.opened inputs.new ≡ I.opened inputs.old) × (I.misses inputs.new ≡ I.misses inputs.old)) }
-    ensures balanced { IsBalanced (I.opened inputs.old) (I.closed inputs.old) (I.opened inputs.new) (I.closed inputs.new) }
+    ensures counts { LeavesRun result (I.counts inputs.old) (I.counts inputs.new) }
 {
     match task {
         Task::Run => {
@@ -101,10 +95,7 @@ fn of_query<I: Inputs>(
     ensures world { I.world inputs.new ≡ I.world inputs.old }
     ensures value { IfOk result (λ e. IfSome (I.world inputs.old) (λ w. IsOfQuery task w query.now (answer_of e))) }
     ensures shape { IfOk result (λ e. IsOfStatus e.out.items (string_bytes e.err) e.status) }
-    ensures cause { CausedBy result (I.faults inputs.old) (I.faults inputs.new) }
-    ensures rises { I.faults inputs.old ≤ I.faults inputs.new }
-    ensures refused { IfOk result (λ e. e.status ≡ Status.Refused → (I.opened inputs.new ≡ I.opened inputs.old) × (I.misses inputs.new ≡ I.misses inputs.old)) }
-    ensures balanced { IsBalanced (I.opened inputs.old) (I.closed inputs.old) (I.opened inputs.new) (I.closed inputs.new) }
+    ensures counts { LeavesRun result (I.counts inputs.old) (I.counts inputs.new) }
 {
     let text = without_mark(query);
     match front(alloc, query) {
@@ -129,10 +120,9 @@ pub(crate) fn decide<I: Inputs>(
     ensures shape { IfOk result (λ e. IsShaped (command_of words.now) (answer_of e)) }
     ensures unread { IsErrOf result Stop.ReadFault → command_of words.now ≢ None }
     ensures usage { command_of words.now ≡ None → IfOk result (λ e. answer_of e ≡ usage) }
-    ensures cause { CausedBy result (I.faults inputs.old) (I.faults inputs.new) }
-    ensures rises { I.faults inputs.old ≤ I.faults inputs.new }
-    ensures opens { IfOk result (λ e. OpensBy e.status (I.opened inputs.old) (I.opened inputs.new) (I.misses inputs.old) (I.misses inputs.new)) }
-    ensures balanced { IsBalanced (I.opened inputs.old) (I.closed inputs.old) (I.opened inputs.new) (I.closed inputs.new) }
+    ensures counts { Leaves result (I.counts inputs.old) (I.counts inputs.new) }
+    ensures opens { IfOk result (λ e.
+        OpensBy e.status (I.counts inputs.old) (I.counts inputs.new)) }
 {
     let Some((task, name)) = command_of(words) else {
         return Ok(tells_usage(alloc)?);

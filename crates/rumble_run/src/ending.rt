@@ -1,5 +1,5 @@
 use crate::status::{Status, Stop};
-use item_tree::NoMemory as OutOfMemory;
+use item_tree::NoMemory;
 use std::alloc::{AllocError, AllocFailed};
 
 /// What a command line comes to: a status, with the bytes for the output and the text for the errors.
@@ -12,9 +12,9 @@ pub(crate) struct Ending {
 
 impl From<AllocError> for Stop {
     ghost use Rattle.std.specs.Prelude.{◌≡◌};
-    ghost use Rattle.rumble_run.specs.declared.status.Stop.TheVariants.{NoMemory};
+    ghost use Rattle.rumble_run.specs.declared.status.Stop.TheVariants as stop;
 
-    ghost from_gives = { λ _ e. e ≡ NoMemory };
+    ghost from_gives = { λ _ e. e ≡ stop.NoMemory };
 
     fn from(_e: AllocError) -> Stop {
         Stop::NoMemory
@@ -23,22 +23,22 @@ impl From<AllocError> for Stop {
 
 impl<T: Drop> From<AllocFailed<T>> for Stop {
     ghost use Rattle.std.specs.Prelude.{◌≡◌};
-    ghost use Rattle.rumble_run.specs.declared.status.Stop.TheVariants.{NoMemory};
+    ghost use Rattle.rumble_run.specs.declared.status.Stop.TheVariants as stop;
 
-    ghost from_gives = { λ _ e. e ≡ NoMemory };
+    ghost from_gives = { λ _ e. e ≡ stop.NoMemory };
 
     fn from(_e: AllocFailed<T>) -> Stop {
         Stop::NoMemory
     }
 }
 
-impl From<OutOfMemory> for Stop {
+impl From<NoMemory> for Stop {
     ghost use Rattle.std.specs.Prelude.{◌≡◌};
-    ghost use Rattle.rumble_run.specs.declared.status.Stop.TheVariants.{NoMemory};
+    ghost use Rattle.rumble_run.specs.declared.status.Stop.TheVariants as stop;
 
-    ghost from_gives = { λ _ e. e ≡ NoMemory };
+    ghost from_gives = { λ _ e. e ≡ stop.NoMemory };
 
-    fn from(_e: OutOfMemory) -> Stop {
+    fn from(_e: NoMemory) -> Stop {
         Stop::NoMemory
     }
 }

@@ -6,7 +6,7 @@ ghost use Rattle.std.specs.Prelude.{◌≡◌, ◌≢◌, ◌≤◌, ◌<◌, �
 ghost use Rattle.outside.specs.Counted.{Rose};
 ghost use Rattle.rumble_run.specs.Answer.{OfAnswer};
 ghost use Rattle.rumble_run.specs.Command.{command_of};
-ghost use Rattle.rumble_run.specs.Ends.{StatusBy, OutBy, err_by, HasText, Wrote, IsBalanced, Calm, Completes, OpensBy};
+ghost use Rattle.rumble_run.specs.Ends.{StatusBy, OutBy, err_by, HasText, Wrote, Calm, Completes, FaultsRose, MissesRose, OpensBy, IsBalanced, NoCountFalls};
 
 mod built;
 mod decide;
@@ -53,9 +53,14 @@ pub fn rumble<R: Threads + Wait + Sync, I: Inputs, O: Sink, E: Sink, G: Gate>(
 ) -> Status
     // Over inputs that tell their bytes, the run ends with the definition's answer.
     ensures status { OfAnswer (I.world inputs.old) words.now (λ answer. StatusBy answer result) }
-    ensures output { OfAnswer (I.world inputs.old) words.now (λ answer. OutBy answer.out result (O.wrote out.old) (O.wrote out.new)) }
-    ensures text { OfAnswer (I.world inputs.old) words.now (λ answer. Wrote (err_by answer.err result) (E.wrote err.old) (E.wrote err.new) (E.faults err.old) (E.faults err.new)) }
-    ensures completes { Calm (I.faults inputs.old) (I.faults inputs.new) → Calm (O.faults out.old) (O.faults out.new) → OfAnswer (I.world inputs.old) words.now (λ answer. Completes answer result) }
+    ensures output { OfAnswer (I.world inputs.old) words.now (λ answer.
+        OutBy answer.out result (O.wrote out.old) (O.wrote out.new)) }
+    ensures text { OfAnswer (I.world inputs.old) words.now (λ answer.
+        Wrote (err_by answer.err result) (E.wrote err.old) (E.wrote err.new)
+        (E.faults err.old) (E.faults err.new)) }
+    ensures completes { Calm (I.counts inputs.old).faults (I.counts inputs.new).faults
+        → Calm (O.faults out.old) (O.faults out.new)
+        → OfAnswer (I.world inputs.old) words.now (λ answer. Completes answer result) }
 
     // Over any others, what is written has the status's form.
     ensures untold_output { (bytes : List ℕ) × OutBy bytes result (O.wrote out.old) (O.wrote out.new) }
@@ -66,15 +71,19 @@ pub fn rumble<R: Threads + Wait + Sync, I: Inputs, O: Sink, E: Sink, G: Gate>(
     ensures usage { result ≡ Status.Usage → command_of words.now ≡ None }
     ensures only_usage { command_of words.now ≡ None →
         (result ≡ Status.Usage) ⊎ (result ≡ Status.NoMemory) }
-    ensures no_query { result ≡ Status.NoQuery → Rose (I.misses inputs.old) (I.misses inputs.new) }
-    ensures read_fault { result ≡ Status.ReadFault → Rose (I.faults inputs.old) (I.faults inputs.new) }
-    ensures read_first { I.faults inputs.old < I.faults inputs.new → (result ≡ Status.ReadFault) ⊎ (result ≡ Status.NoMemory) }
+    ensures no_query { result ≡ Status.NoQuery →
+        MissesRose (I.counts inputs.old) (I.counts inputs.new) }
+    ensures read_fault { result ≡ Status.ReadFault →
+        FaultsRose (I.counts inputs.old) (I.counts inputs.new) }
+    ensures read_first { (I.counts inputs.old).faults < (I.counts inputs.new).faults →
+        (result ≡ Status.ReadFault) ⊎ (result ≡ Status.NoMemory) }
     ensures write_fault { result ≡ Status.WriteFault → Rose (O.faults out.old) (O.faults out.new) }
     ensures out_calm { result ≢ Status.WriteFault → O.faults out.new ≡ O.faults out.old }
 
     // Which files were opened, and that each was closed.
-    ensures opens { OpensBy result (I.opened inputs.old) (I.opened inputs.new) (I.misses inputs.old) (I.misses inputs.new) }
-    ensures closed { IsBalanced (I.opened inputs.old) (I.closed inputs.old) (I.opened inputs.new) (I.closed inputs.new) }
+    ensures opens { OpensBy result (I.counts inputs.old) (I.counts inputs.new) }
+    ensures closed { IsBalanced (I.counts inputs.old) (I.counts inputs.new) }
+    ensures rises { NoCountFalls (I.counts inputs.old) (I.counts inputs.new) }
     ensures world { I.world inputs.new ≡ I.world inputs.old }
 {
     match decide(alloc, words, inputs) {

@@ -11,10 +11,8 @@ fn print_line(item: &Item, out: &mut Vec<u8>) -> Result<(), NoMemory>
     ensures { OnOk result (out.new.items ≡ out.old.items ++ output_of (datum item.now ∷ [])) }
 {
     print_item(item, out)?;
-    match out.push(b'\n') {
-        Ok(()) => Ok(()),
-        Err(_) => Err(NoMemory),
-    }
+    out.push(b'\n')?;
+    Ok(())
 }
 
 /// The items, each on a line of its own.

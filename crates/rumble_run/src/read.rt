@@ -1,9 +1,7 @@
 ghost use Rattle.std.specs.Prelude.{◌≡◌, ◌≤◌, IfOk, IfSome, option_map};
 ghost use Rattle.std.specs.Str.{chars};
-ghost use Rattle.outside.specs.Counted.{Rose};
 ghost use Rattle.outside.specs.World.{file_of};
-ghost use Rattle.rumble_run.specs.Ends.{IsBalanced};
-ghost use Rattle.rumble_run.specs.Reads.{CausedBy, MissedBy, OpenedBy};
+ghost use Rattle.rumble_run.specs.Reads.{CausedBy, LeavesRead};
 
 use crate::status::Stop;
 use outside::{InputFile, Inputs, OpenFault};
@@ -45,12 +43,9 @@ pub(crate) fn read_named<I: Inputs>(
     name: &str,
 ) -> Result<Option<Vec<u8>>, Stop>
     ensures world { I.world inputs.new ≡ I.world inputs.old }
-    ensures bytes { IfOk result (λ o. IfSome (I.world inputs.old) (λ w. option_map (λ v. v.items) o ≡ file_of w (chars name.now))) }
-    ensures cause { CausedBy result (I.faults inputs.old) (I.faults inputs.new) }
-    ensures rises { I.faults inputs.old ≤ I.faults inputs.new }
-    ensures missed { MissedBy result (I.misses inputs.old) (I.misses inputs.new) }
-    ensures opened { OpenedBy result (I.opened inputs.old) (I.opened inputs.new) }
-    ensures balanced { IsBalanced (I.opened inputs.old) (I.closed inputs.old) (I.opened inputs.new) (I.closed inputs.new) }
+    ensures bytes { IfOk result (λ o. IfSome (I.world inputs.old) (λ w.
+        option_map (λ v. v.items) o ≡ file_of w (chars name.now))) }
+    ensures counts { LeavesRead result (I.counts inputs.old) (I.counts inputs.new) }
 {
     match inputs.open_file(name) {
         Ok(mut file) => {
