@@ -6,9 +6,9 @@ ghost use Rattle.static_rules.specs.Calls.{text_in};
 ghost use Rattle.static_rules.specs.Stacks.{callee_of};
 ghost use Rattle.static_rules.specs.Sources.{named_form, named_trees};
 
-use crate::leaves::{NamedKind, copied};
-use crate::walk::{Known, OutOfMemory};
-use item_tree::Str;
+use crate::leaves::NamedKind;
+use crate::walk::Known;
+use item_tree::{NoMemory, Str};
 use query_tree::{Kind, NamedExpr};
 use std::alloc::Global;
 
@@ -51,14 +51,14 @@ pub fn is_one_text(arguments: &[NamedExpr]) -> bool
 }
 
 /// The first argument, where it is a string that is spelled out.
-pub fn first_text(alloc: Global, arguments: &[NamedExpr]) -> Result<Str, OutOfMemory>
+pub fn first_text(alloc: Global, arguments: &[NamedExpr]) -> Result<Str, NoMemory>
     ensures { IfOk result (λ s. s ≡ text_of (named_trees arguments.now)) }
 {
     match arguments {
-        [] => Ok(Str::of(alloc, "")?),
+        [] => Str::of(alloc, ""),
         [first, ..] => match text_in(&first.kind) {
-            Some(text) => copied(text),
-            None => Ok(Str::of(alloc, "")?),
+            Some(text) => text.copy(),
+            None => Str::of(alloc, ""),
         },
     }
 }

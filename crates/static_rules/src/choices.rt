@@ -13,8 +13,8 @@ use crate::exprs::expr;
 use crate::gather::{both, boxed, pushed};
 use crate::leaves::{BoundKind, copied_codes, local, seq_types};
 use crate::primaries::trees;
-use crate::walk::{OutOfMemory, Walk};
-use item_tree::Str;
+use crate::walk::Walk;
+use item_tree::{NoMemory, Str};
 use query_tree::{BoundExpr, Case, Catch, Kind, NamedExpr, Placed, Slot, TypeCase, TypeName};
 use seq_types::SeqType;
 use std::alloc::Global;
@@ -28,7 +28,7 @@ pub fn choice<'q>(
     condition: &'q NamedExpr,
     when_true: &'q NamedExpr,
     when_false: &'q NamedExpr,
-) -> Result<BoundKind, OutOfMemory>
+) -> Result<BoundKind, NoMemory>
     ensures tree { IfOk result (λ t. bound_form t ≡ compiled_form walk.old.names walk.old.number (if_form (named_tree condition.now) (named_tree when_true.now) (named_tree when_false.now))) }
     ensures walk { OnOk result (walk.new ≡ behind_form walk.old item 0 (if_form (named_tree condition.now) (named_tree when_true.now) (named_tree when_false.now))) }
 {
@@ -52,7 +52,7 @@ pub fn switch<'q>(
     inner: &'q [Case<NamedExpr>],
     operand: &'q NamedExpr,
     default: &'q NamedExpr,
-) -> Result<BoundKind, OutOfMemory>
+) -> Result<BoundKind, NoMemory>
     ensures tree { IfOk result (λ t. bound_form t ≡ compiled_form walk.old.names walk.old.number (switch_form (named_tree operand.now) (named_cases inner.now) (named_tree default.now))) }
     ensures walk { OnOk result (walk.new ≡ behind_form walk.old item 0 (switch_form (named_tree operand.now) (named_cases inner.now) (named_tree default.now))) }
 {
@@ -73,7 +73,7 @@ fn cases<'q>(
     walk: &mut Walk<'q>,
     item: bool,
     parts: &'q [Case<NamedExpr>],
-) -> Result<Vec<Case<BoundExpr>>, OutOfMemory>
+) -> Result<Vec<Case<BoundExpr>>, NoMemory>
     ensures tree { IfOk result (λ t. bound_cases t.items ≡ compiled_cases walk.old.names walk.old.number (named_cases parts.now)) }
     ensures walk { OnOk result (walk.new ≡ behind_cases walk.old item (named_cases parts.now)) }
 {
@@ -91,7 +91,7 @@ fn case<'q>(
     walk: &mut Walk<'q>,
     item: bool,
     part: &'q Case<NamedExpr>,
-) -> Result<Case<BoundExpr>, OutOfMemory>
+) -> Result<Case<BoundExpr>, NoMemory>
     ensures tree { IfOk result (λ t. bound_case t ≡ compiled_case walk.old.names walk.old.number (named_case part.now)) }
     ensures walk { OnOk result (walk.new ≡ behind_case walk.old item (named_case part.now)) }
 {
@@ -111,7 +111,7 @@ pub fn typeswitch<'q>(
     operand: &'q NamedExpr,
     variable: &'q Option<Placed<Str>>,
     default: &'q NamedExpr,
-) -> Result<BoundKind, OutOfMemory>
+) -> Result<BoundKind, NoMemory>
     ensures tree { IfOk result (λ t. bound_form t ≡ compiled_form walk.old.names walk.old.number (typeswitch_form (named_tree operand.now) (named_type_cases inner.now) variable.now (named_tree default.now))) }
     ensures walk { OnOk result (walk.new ≡ behind_form walk.old item 0 (typeswitch_form (named_tree operand.now) (named_type_cases inner.now) variable.now (named_tree default.now))) }
 {
@@ -135,7 +135,7 @@ fn otherwise<'q>(
     item: bool,
     variable: &'q Option<Placed<Str>>,
     default: &'q NamedExpr,
-) -> Result<(Option<Placed<Slot>>, Box<BoundExpr>), OutOfMemory>
+) -> Result<(Option<Placed<Slot>>, Box<BoundExpr>), NoMemory>
     ensures tree { IfOk result (λ t. (t.0 ≡ any_binding variable.now walk.old.number) × (bound_tree t.1.value ≡ compiled (with_any walk.old.names variable.now walk.old.number) (past walk.old.number (any_name variable.now)) (named_tree default.now))) }
     ensures walk { OnOk result (walk.new ≡ passed walk.old (mentions (seeing (view_of item walk.old.names) (and_any (bound_names walk.old.names.variables) variable.now)) (named_tree default.now)) (any_name variable.now ++ binders (named_tree default.now))) }
 {
@@ -152,7 +152,7 @@ fn type_cases<'q>(
     walk: &mut Walk<'q>,
     item: bool,
     parts: &'q [TypeCase<Str, TypeName, NamedExpr>],
-) -> Result<Vec<TypeCase<Slot, SeqType, BoundExpr>>, OutOfMemory>
+) -> Result<Vec<TypeCase<Slot, SeqType, BoundExpr>>, NoMemory>
     ensures tree { IfOk result (λ t. bound_type_cases t.items ≡ compiled_type_cases walk.old.names walk.old.number (named_type_cases parts.now)) }
     ensures walk { OnOk result (walk.new ≡ behind_type_cases walk.old item (named_type_cases parts.now)) }
 {
@@ -170,7 +170,7 @@ fn type_case<'q>(
     walk: &mut Walk<'q>,
     item: bool,
     part: &'q TypeCase<Str, TypeName, NamedExpr>,
-) -> Result<TypeCase<Slot, SeqType, BoundExpr>, OutOfMemory>
+) -> Result<TypeCase<Slot, SeqType, BoundExpr>, NoMemory>
     ensures tree { IfOk result (λ t. bound_type_case t ≡ compiled_type_case walk.old.names walk.old.number (named_type_case part.now)) }
     ensures walk { OnOk result (walk.new ≡ behind_type_case walk.old item (named_type_case part.now)) }
 {
@@ -191,7 +191,7 @@ fn arm<'q>(
     item: bool,
     variable: &'q Option<Placed<Str>>,
     value: &'q NamedExpr,
-) -> Result<(Option<Placed<Slot>>, BoundExpr), OutOfMemory>
+) -> Result<(Option<Placed<Slot>>, BoundExpr), NoMemory>
     ensures tree { IfOk result (λ t. (t.0 ≡ any_binding variable.now walk.old.number) × (bound_tree t.1 ≡ compiled (with_any walk.old.names variable.now walk.old.number) (past walk.old.number (any_name variable.now)) (named_tree value.now))) }
     ensures walk { OnOk result (walk.new ≡ passed walk.old (mentions (seeing (view_of item walk.old.names) (and_any (bound_names walk.old.names.variables) variable.now)) (named_tree value.now)) (any_name variable.now ++ binders (named_tree value.now))) }
 {
@@ -210,7 +210,7 @@ pub fn tried<'q>(
     item: bool,
     inner: &'q [Catch<Str, NamedExpr>],
     body: &'q NamedExpr,
-) -> Result<BoundKind, OutOfMemory>
+) -> Result<BoundKind, NoMemory>
     ensures tree { IfOk result (λ t. bound_form t ≡ compiled_form walk.old.names walk.old.number (try_form (named_tree body.now) (named_catches inner.now))) }
     ensures walk { OnOk result (walk.new ≡ behind_form walk.old item 0 (try_form (named_tree body.now) (named_catches inner.now))) }
 {
@@ -226,7 +226,7 @@ fn catches<'q>(
     walk: &mut Walk<'q>,
     item: bool,
     parts: &'q [Catch<Str, NamedExpr>],
-) -> Result<Vec<Catch<Slot, BoundExpr>>, OutOfMemory>
+) -> Result<Vec<Catch<Slot, BoundExpr>>, NoMemory>
     ensures tree { IfOk result (λ t. bound_catches t.items ≡ compiled_catches walk.old.names walk.old.number (named_catches parts.now)) }
     ensures walk { OnOk result (walk.new ≡ behind_catches walk.old item (named_catches parts.now)) }
 {
@@ -244,7 +244,7 @@ fn catch<'q>(
     walk: &mut Walk<'q>,
     item: bool,
     part: &'q Catch<Str, NamedExpr>,
-) -> Result<Catch<Slot, BoundExpr>, OutOfMemory>
+) -> Result<Catch<Slot, BoundExpr>, NoMemory>
     ensures tree { IfOk result (λ t. bound_catch t ≡ compiled_catch walk.old.names walk.old.number (named_catch part.now)) }
     ensures walk { OnOk result (walk.new ≡ behind_catch walk.old item (named_catch part.now)) }
 {

@@ -11,8 +11,8 @@ use crate::declarations::{functions, variables};
 use crate::exprs::expr;
 use crate::gather::{accepted, both};
 use crate::laws::accepted_queries_pass;
-use crate::walk::{OutOfMemory, Walk};
-use item_tree::Code;
+use crate::walk::Walk;
+use item_tree::{Code, NoMemory};
 use query_tree::{BoundModule, Compiled, Module, Query};
 use std::alloc::Global;
 
@@ -48,7 +48,7 @@ fn module<'q>(
     alloc: Global,
     walk: &mut Walk<'q>,
     query: &'q Query,
-) -> Result<(BoundModule, usize), OutOfMemory>
+) -> Result<(BoundModule, usize), NoMemory>
     requires { walk.old ≡ started }
     ensures tree { IfOk result (λ m. bound_trees m.0 ≡ compiled_query (named_query query.now)) }
     ensures width { IfOk result (λ m. m.1 ≡ query_width (named_query query.now)) }

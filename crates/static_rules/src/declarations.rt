@@ -13,8 +13,8 @@ use crate::calls::is_lines;
 use crate::exprs::expr;
 use crate::gather::{both, pushed};
 use crate::leaves::{any_type, local};
-use crate::walk::{Known, OutOfMemory, Walk};
-use item_tree::{FnId, Str};
+use crate::walk::{Known, Walk};
+use item_tree::{FnId, NoMemory, Str};
 use query_tree::{Function, Param, Placed, Slot, Target, TypeName, Variable};
 use seq_types::SeqType;
 use std::alloc::Global;
@@ -32,7 +32,7 @@ pub fn variables<'q>(
     alloc: Global,
     walk: &mut Walk<'q>,
     parts: &'q [NamedVariable],
-) -> Result<(Vec<BoundVariable>, usize), OutOfMemory>
+) -> Result<(Vec<BoundVariable>, usize), NoMemory>
     requires { walk.old.names.functions ≡ [] }
     ensures tree { IfOk result (λ r. map bound_variable r.0.items ≡ compiled_variables walk.old.names.variables 0 (map named_variable parts.now)) }
     ensures width { IfOk result (λ r. r.1 ≡ greatest (map variable_width (map named_variable parts.now))) }
@@ -54,7 +54,7 @@ fn variable<'q>(
     walk: &mut Walk<'q>,
     number: usize,
     part: &'q NamedVariable,
-) -> Result<BoundVariable, OutOfMemory>
+) -> Result<BoundVariable, NoMemory>
     ensures tree { IfOk result (λ x. bound_variable x ≡ compiled_variable walk.old.names number (named_variable part.now)) }
     ensures walk { OnOk result (walk.new ≡ behind_variable walk.old number (named_variable part.now)) }
 {
@@ -79,7 +79,7 @@ pub fn functions<'q>(
     alloc: Global,
     walk: &mut Walk<'q>,
     parts: &'q [NamedFunction],
-) -> Result<(Vec<BoundFunction>, usize), OutOfMemory>
+) -> Result<(Vec<BoundFunction>, usize), NoMemory>
     ensures tree { IfOk result (λ r. map bound_function r.0.items ≡ compiled_functions (with_functions walk.old.names (map m.callee_of (map named_function parts.now))) 0 (map named_function parts.now)) }
     ensures width { IfOk result (λ r. r.1 ≡ greatest (map function_width (map named_function parts.now))) }
     ensures walk { OnOk result (walk.new ≡ behind_functions walk.old (map named_function parts.now)) }
@@ -96,7 +96,7 @@ pub fn functions<'q>(
 }
 
 // The declared functions, as they are called.
-fn known<'q>(alloc: Global, parts: &'q [NamedFunction]) -> Result<Vec<Known<'q>>, OutOfMemory>
+fn known<'q>(alloc: Global, parts: &'q [NamedFunction]) -> Result<Vec<Known<'q>>, NoMemory>
     ensures { IfOk result (λ ks. map callee_of ks.items ≡ map m.callee_of (map named_function parts.now)) }
 {
     let mut out = Vec::new(alloc);
@@ -115,14 +115,14 @@ fn function<'q>(
     walk: &mut Walk<'q>,
     number: usize,
     part: &'q NamedFunction,
-) -> Result<BoundFunction, OutOfMemory>
+) -> Result<BoundFunction, NoMemory>
     requires { number ≤ length walk.old.names.functions }
     ensures tree { IfOk result (λ f. bound_function f ≡ compiled_function walk.old.names number (named_function part.now)) }
     ensures walk { OnOk result (walk.new ≡ behind_function walk.old number (named_function part.now)) }
 {
     let place = part.function.place;
     let Ok(own) = u32::try_from(number) else {
-        return Err(OutOfMemory);
+        return Err(NoMemory);
     };
     let depth = walk.depth();
     walk.begin();
@@ -158,7 +158,7 @@ fn params<'q>(
     walk: &mut Walk<'q>,
     base: usize,
     parts: &'q [Param<Str, TypeName>],
-) -> Result<Vec<Param<Slot, SeqType>>, OutOfMemory>
+) -> Result<Vec<Param<Slot, SeqType>>, NoMemory>
     requires { base ≤ length walk.old.names.variables }
     ensures tree { IfOk result (λ qs. qs.items ≡ compiled_params walk.old.number parts.now) }
     ensures walk { OnOk result (walk.new ≡ behind_params walk.old base parts.now) }
@@ -174,7 +174,7 @@ fn param<'q>(
     walk: &mut Walk<'q>,
     base: usize,
     part: &'q Param<Str, TypeName>,
-) -> Result<Param<Slot, SeqType>, OutOfMemory>
+) -> Result<Param<Slot, SeqType>, NoMemory>
     requires { base ≤ length walk.old.names.variables }
     ensures tree { IfOk result (λ q. q ≡ compiled_param walk.old.number part.now) }
     ensures walk { OnOk result (walk.new ≡ behind_param walk.old base part.now) }

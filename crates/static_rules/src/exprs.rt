@@ -14,7 +14,8 @@ use crate::operators::{
 use crate::primaries::{array, call, merge, object, paren};
 use crate::quantifiers::quantified;
 use crate::steps::postfix;
-use crate::walk::{OutOfMemory, Walk};
+use crate::walk::Walk;
+use item_tree::NoMemory;
 use query_tree::{BoundExpr, Expr, Kind, NamedExpr};
 use std::alloc::Global;
 
@@ -26,7 +27,7 @@ pub fn expr<'q>(
     walk: &mut Walk<'q>,
     item: bool,
     e: &'q NamedExpr,
-) -> Result<BoundExpr, OutOfMemory>
+) -> Result<BoundExpr, NoMemory>
     ensures tree { IfOk result (λ t. bound_tree t ≡ compiled walk.old.names walk.old.number (named_tree e.now)) }
     ensures walk { OnOk result (walk.new ≡ behind_tree walk.old item (named_tree e.now)) }
 {
@@ -46,7 +47,7 @@ fn kind<'q>(
     item: bool,
     place: u32,
     kind: &'q NamedKind,
-) -> Result<BoundKind, OutOfMemory>
+) -> Result<BoundKind, NoMemory>
     ensures tree { IfOk result (λ t. bound_form t ≡ compiled_form walk.old.names walk.old.number (named_form kind.now)) }
     ensures walk { OnOk result (walk.new ≡ behind_form walk.old item place (named_form kind.now)) }
 {

@@ -14,8 +14,8 @@ ghost use Rattle.static_rules.specs.Sources.{named_tree, bound_tree, bound_form,
 use crate::exprs::expr;
 use crate::gather::{both, boxed, pushed};
 use crate::leaves::{BoundKind, any_local, any_type, local};
-use crate::walk::{OutOfMemory, Walk};
-use item_tree::Str;
+use crate::walk::Walk;
+use item_tree::{NoMemory, Str};
 use query_tree::{
     BoundExpr, Clause, Expr, GroupVar, Kind, NamedExpr, OrderKey, Placed, Slot, Target, TypeName,
 };
@@ -35,7 +35,7 @@ pub fn flwor<'q>(
     inner: &'q [NamedClause],
     place: u32,
     returned: &'q NamedExpr,
-) -> Result<BoundKind, OutOfMemory>
+) -> Result<BoundKind, NoMemory>
     ensures tree { IfOk result (λ t. bound_form t ≡ compiled_form walk.old.names walk.old.number (flwor_form (named_clauses inner.now) place (named_tree returned.now))) }
     ensures walk { OnOk result (walk.new ≡ behind_form walk.old item 0 (flwor_form (named_clauses inner.now) place (named_tree returned.now))) }
 {
@@ -58,7 +58,7 @@ fn clauses<'q>(
     walk: &mut Walk<'q>,
     item: bool,
     parts: &'q [NamedClause],
-) -> Result<Vec<BoundClause>, OutOfMemory>
+) -> Result<Vec<BoundClause>, NoMemory>
     ensures tree { IfOk result (λ t. bound_clauses t.items ≡ compiled_clauses walk.old.names walk.old.number (named_clauses parts.now)) }
     ensures walk { OnOk result (walk.new ≡ behind_clauses walk.old item (length walk.old.names.variables) (named_clauses parts.now)) }
 {
@@ -74,7 +74,7 @@ fn clauses_from<'q>(
     item: bool,
     base: usize,
     parts: &'q [NamedClause],
-) -> Result<Vec<BoundClause>, OutOfMemory>
+) -> Result<Vec<BoundClause>, NoMemory>
     ensures tree { base ≤ length walk.old.names.variables → IfOk result (λ t. bound_clauses t.items ≡ compiled_clauses walk.old.names walk.old.number (named_clauses parts.now)) }
     ensures walk { base ≤ length walk.old.names.variables → OnOk result (walk.new ≡ behind_clauses walk.old item base (named_clauses parts.now)) }
 {
@@ -93,7 +93,7 @@ fn clause<'q>(
     item: bool,
     base: usize,
     part: &'q NamedClause,
-) -> Result<BoundClause, OutOfMemory>
+) -> Result<BoundClause, NoMemory>
     ensures tree { IfOk result (λ t. bound_clause t ≡ compiled_clause walk.old.names walk.old.number (named_clause part.now)) }
     ensures walk { OnOk result (walk.new ≡ behind_clause walk.old item base (named_clause part.now)) }
 {
@@ -132,7 +132,7 @@ fn for_each<'q>(
     allowing_empty: bool,
     position: &'q Option<Placed<Str>>,
     source: &'q NamedExpr,
-) -> Result<BoundClause, OutOfMemory>
+) -> Result<BoundClause, NoMemory>
     ensures tree { IfOk result (λ t. bound_clause t ≡ compiled_clause walk.old.names walk.old.number (for_clause variable.now of.now allowing_empty position.now (named_tree source.now))) }
     ensures walk { OnOk result (walk.new ≡ behind_clause walk.old item 0 (for_clause variable.now of.now allowing_empty position.now (named_tree source.now))) }
 {
@@ -163,7 +163,7 @@ fn let_be<'q>(
     variable: &'q Placed<Str>,
     of: &Option<Placed<TypeName>>,
     value: &'q NamedExpr,
-) -> Result<BoundClause, OutOfMemory>
+) -> Result<BoundClause, NoMemory>
     ensures tree { IfOk result (λ t. bound_clause t ≡ compiled_clause walk.old.names walk.old.number (let_clause variable.now of.now (named_tree value.now))) }
     ensures walk { OnOk result (walk.new ≡ behind_clause walk.old item 0 (let_clause variable.now of.now (named_tree value.now))) }
 {
@@ -185,7 +185,7 @@ pub fn bound<'q>(
     variable: &'q Placed<Str>,
     of: &Option<Placed<TypeName>>,
     value: &'q NamedExpr,
-) -> Result<(Placed<Slot>, Option<Placed<SeqType>>, BoundExpr), OutOfMemory>
+) -> Result<(Placed<Slot>, Option<Placed<SeqType>>, BoundExpr), NoMemory>
     ensures variable { IfOk result (λ t. t.0 ≡ binding variable.now walk.old.number) }
     ensures of { IfOk result (λ t. t.1 ≡ option_map placed_type of.now) }
     ensures value { IfOk result (λ t. bound_tree t.2 ≡ compiled walk.old.names (walk.old.number + 1) (named_tree value.now)) }
@@ -206,7 +206,7 @@ fn keep<'q>(
     item: bool,
     place: u32,
     test: &'q NamedExpr,
-) -> Result<BoundClause, OutOfMemory>
+) -> Result<BoundClause, NoMemory>
     ensures tree { IfOk result (λ t. bound_clause t ≡ compiled_clause walk.old.names walk.old.number (keep_clause place (named_tree test.now))) }
     ensures walk { OnOk result (walk.new ≡ behind_clause walk.old item 0 (keep_clause place (named_tree test.now))) }
 {
@@ -223,7 +223,7 @@ fn group<'q>(
     base: usize,
     place: u32,
     inner: &'q Vec<GroupVar<Str, NamedExpr>>,
-) -> Result<BoundClause, OutOfMemory>
+) -> Result<BoundClause, NoMemory>
     ensures tree { IfOk result (λ t. bound_clause t ≡ compiled_clause walk.old.names walk.old.number (group_clause place (named_group_vars inner.now.items))) }
     ensures walk { OnOk result (walk.new ≡ behind_clause walk.old item base (group_clause place (named_group_vars inner.now.items))) }
 {
@@ -239,7 +239,7 @@ fn keys<'q>(
     item: bool,
     base: usize,
     parts: &'q [GroupVar<Str, NamedExpr>],
-) -> Result<Vec<GroupVar<Slot, BoundExpr>>, OutOfMemory>
+) -> Result<Vec<GroupVar<Slot, BoundExpr>>, NoMemory>
     ensures tree { IfOk result (λ t. bound_group_vars t.items ≡ compiled_group_vars walk.old.names walk.old.names walk.old.number (named_group_vars parts.now)) }
     ensures walk { OnOk result (walk.new ≡ behind_clause walk.old item base (group_clause 0 (named_group_vars parts.now))) }
 {
@@ -257,7 +257,7 @@ fn keys_from<'q>(
     base: usize,
     mark: usize,
     parts: &'q [GroupVar<Str, NamedExpr>],
-) -> Result<Vec<GroupVar<Slot, BoundExpr>>, OutOfMemory>
+) -> Result<Vec<GroupVar<Slot, BoundExpr>>, NoMemory>
     ensures tree { mark ≤ length walk.old.names.variables → IfOk result (λ t. bound_group_vars t.items ≡ compiled_group_vars (below mark walk.old.names) walk.old.names walk.old.number (named_group_vars parts.now)) }
     ensures walk { mark ≤ length walk.old.names.variables → OnOk result (walk.new ≡ behind_keys walk.old item base mark (named_group_vars parts.now)) }
 {
@@ -276,7 +276,7 @@ fn key<'q>(
     base: usize,
     mark: usize,
     part: &'q GroupVar<Str, NamedExpr>,
-) -> Result<GroupVar<Slot, BoundExpr>, OutOfMemory>
+) -> Result<GroupVar<Slot, BoundExpr>, NoMemory>
     ensures tree { IfOk result (λ t. bound_group_var t ≡ compiled_group_var (below mark walk.old.names) walk.old.names walk.old.number (named_group_var part.now)) }
     ensures walk { OnOk result (walk.new ≡ behind_key walk.old item base mark (named_group_var part.now)) }
 {
@@ -293,7 +293,7 @@ fn stream_key<'q>(
     base: usize,
     mark: usize,
     variable: &'q Placed<Str>,
-) -> Result<GroupVar<Slot, BoundExpr>, OutOfMemory>
+) -> Result<GroupVar<Slot, BoundExpr>, NoMemory>
     ensures tree { IfOk result (λ t. bound_group_var t ≡ compiled_group_var (below mark walk.old.names) walk.old.names walk.old.number (stream_group_var variable.now)) }
     ensures walk { OnOk result (walk.new ≡ behind_key walk.old true base mark (stream_group_var variable.now)) }
 {
@@ -318,7 +318,7 @@ fn valued_key<'q>(
     item: bool,
     variable: &'q Placed<Str>,
     value: &'q NamedExpr,
-) -> Result<GroupVar<Slot, BoundExpr>, OutOfMemory>
+) -> Result<GroupVar<Slot, BoundExpr>, NoMemory>
     ensures tree { IfOk result (λ t. bound_group_var t ≡ computed_group_var (binding variable.now walk.old.number) (compiled walk.old.names (walk.old.number + 1) (named_tree value.now))) }
     ensures walk { OnOk result (walk.new ≡ behind_key walk.old item 0 0 (computed_group_var variable.now (named_tree value.now))) }
 {
@@ -335,7 +335,7 @@ fn order<'q>(
     place: u32,
     stable: bool,
     inner: &'q [OrderKey<NamedExpr>],
-) -> Result<BoundClause, OutOfMemory>
+) -> Result<BoundClause, NoMemory>
     ensures tree { IfOk result (λ t. bound_clause t ≡ compiled_clause walk.old.names walk.old.number (order_clause place stable (named_order_keys inner.now))) }
     ensures walk { OnOk result (walk.new ≡ behind_clause walk.old item 0 (order_clause place stable (named_order_keys inner.now))) }
 {
@@ -353,7 +353,7 @@ fn order_keys<'q>(
     walk: &mut Walk<'q>,
     item: bool,
     parts: &'q [OrderKey<NamedExpr>],
-) -> Result<Vec<OrderKey<BoundExpr>>, OutOfMemory>
+) -> Result<Vec<OrderKey<BoundExpr>>, NoMemory>
     ensures tree { IfOk result (λ t. bound_order_keys t.items ≡ compiled_order_keys walk.old.names walk.old.number (named_order_keys parts.now)) }
     ensures walk { OnOk result (walk.new ≡ behind_order_keys walk.old item (named_order_keys parts.now)) }
 {
@@ -371,7 +371,7 @@ fn order_key<'q>(
     walk: &mut Walk<'q>,
     item: bool,
     part: &'q OrderKey<NamedExpr>,
-) -> Result<OrderKey<BoundExpr>, OutOfMemory>
+) -> Result<OrderKey<BoundExpr>, NoMemory>
     ensures tree { IfOk result (λ t. bound_order_key t ≡ compiled_order_key walk.old.names walk.old.number (named_order_key part.now)) }
     ensures walk { OnOk result (walk.new ≡ behind_order_key walk.old item (named_order_key part.now)) }
 {
@@ -389,7 +389,7 @@ fn count<'q>(
     walk: &mut Walk<'q>,
     place: u32,
     variable: &'q Placed<Str>,
-) -> Result<BoundClause, OutOfMemory>
+) -> Result<BoundClause, NoMemory>
     ensures tree { IfOk result (λ t. bound_clause t ≡ compiled_clause walk.old.names walk.old.number (count_clause place variable.now)) }
     ensures walk { OnOk result (walk.new ≡ behind_clause walk.old true 0 (count_clause place variable.now)) }
 {

@@ -6,39 +6,33 @@ ghost use Rattle.static_rules.specs.Gathering.{Pushed};
 ghost use Rattle.std.specs.Prelude.{None, IfErr};
 ghost use Rattle.static_rules.specs.Faults.{IsFault};
 
-use crate::walk::OutOfMemory;
 use crate::{CompileFault, Refusal};
+use item_tree::NoMemory;
 use std::alloc::Global;
 
 /// Both of two parts.
 pub fn both<A: Drop, B: Drop>(
-    first: Result<A, OutOfMemory>,
-    second: Result<B, OutOfMemory>,
-) -> Result<(A, B), OutOfMemory>
+    first: Result<A, NoMemory>,
+    second: Result<B, NoMemory>,
+) -> Result<(A, B), NoMemory>
     ensures first { IfOk result (λ r. first ≡ Ok r.0) }
     ensures second { IfOk result (λ r. second ≡ Ok r.1) }
 {
     match (first, second) {
         (Ok(a), Ok(b)) => Ok((a, b)),
-        _ => Err(OutOfMemory),
+        _ => Err(NoMemory),
     }
 }
 
 /// A part on the heap.
-pub fn boxed<A: Drop>(alloc: Global, part: Result<A, OutOfMemory>) -> Result<Box<A>, OutOfMemory>
+pub fn boxed<A: Drop>(alloc: Global, part: Result<A, NoMemory>) -> Result<Box<A>, NoMemory>
     ensures { IfOk result (λ b. part ≡ Ok b.value) }
 {
-    match Box::new(alloc, part?) {
-        Ok(b) => Ok(b),
-        Err(_) => Err(OutOfMemory),
-    }
+    Ok(Box::new(alloc, part?)?)
 }
 
 /// The parts with one more behind them.
-pub fn pushed<A: Drop>(
-    mut parts: Vec<A>,
-    part: Result<A, OutOfMemory>,
-) -> Result<Vec<A>, OutOfMemory>
+pub fn pushed<A: Drop>(mut parts: Vec<A>, part: Result<A, NoMemory>) -> Result<Vec<A>, NoMemory>
     ensures { IfOk result (λ v. Pushed parts.items part v.items) }
 {
     parts.push(part?)?;
@@ -47,7 +41,7 @@ pub fn pushed<A: Drop>(
 
 /// What was made, where no rule was broken.
 pub fn accepted<A: Drop>(
-    made: Result<A, OutOfMemory>,
+    made: Result<A, NoMemory>,
     first: Option<Refusal>,
 ) -> Result<A, CompileFault>
     ensures made { IfOk result (λ a. made ≡ Ok a) }

@@ -6,8 +6,8 @@ ghost use Rattle.query_tree.specs.declared.bound.Slot.TheVariants.{Local};
 ghost use Rattle.static_rules.specs.Walks.{passed};
 ghost use Rattle.static_rules.specs.Sources.{bound_form, bound_lookup, behind_form, behind_lookup};
 
-use crate::walk::{OutOfMemory, Walk};
-use item_tree::{Str, Units, Whole};
+use crate::walk::Walk;
+use item_tree::{NoMemory, Str, Units, Whole};
 use query_tree::{BoundExpr, Kind, Lookup, Placed, Slot, SumOp, Target, TypeName};
 use seq_types::SeqType;
 use std::alloc::Global;
@@ -17,7 +17,7 @@ pub type BoundKind = Kind<Slot, Target, SeqType>;
 pub type NamedKind = Kind<Str, Str, TypeName>;
 
 #[tactic(auto, using(query_tree::proofs::Layers::layers, crate::proofs::Passing::passings))]
-pub fn int(walk: &mut Walk, value: Whole) -> Result<BoundKind, OutOfMemory>
+pub fn int(walk: &mut Walk, value: Whole) -> Result<BoundKind, NoMemory>
     ensures tree { IfOk result (λ t. bound_form t ≡ int_form value) }
     ensures walk { OnOk result (walk.new ≡ passed walk.old [] []) }
 {
@@ -25,7 +25,7 @@ pub fn int(walk: &mut Walk, value: Whole) -> Result<BoundKind, OutOfMemory>
 }
 
 #[tactic(auto, using(query_tree::proofs::Layers::layers, crate::proofs::Passing::passings))]
-pub fn dec(walk: &mut Walk, value: Units) -> Result<BoundKind, OutOfMemory>
+pub fn dec(walk: &mut Walk, value: Units) -> Result<BoundKind, NoMemory>
     ensures tree { IfOk result (λ t. bound_form t ≡ dec_form value) }
     ensures walk { OnOk result (walk.new ≡ passed walk.old [] []) }
 {
@@ -33,17 +33,17 @@ pub fn dec(walk: &mut Walk, value: Units) -> Result<BoundKind, OutOfMemory>
 }
 
 #[tactic(auto, using(query_tree::proofs::Layers::layers, crate::proofs::Passing::passings))]
-pub fn text(walk: &mut Walk, value: &Str) -> Result<BoundKind, OutOfMemory>
+pub fn text(walk: &mut Walk, value: &Str) -> Result<BoundKind, NoMemory>
     ensures tree { IfOk result (λ t. bound_form t ≡ text_form value.now) }
     ensures walk { OnOk result (walk.new ≡ passed walk.old [] []) }
 {
-    let value = copied(value)?;
+    let value = value.copy()?;
     Ok(Kind::Text { value })
 }
 
 /// A constant that has a name.
 #[tactic(auto, using(query_tree::proofs::Layers::layers, crate::proofs::Passing::passings))]
-pub fn constant(walk: &mut Walk, kind: BoundKind) -> Result<BoundKind, OutOfMemory>
+pub fn constant(walk: &mut Walk, kind: BoundKind) -> Result<BoundKind, NoMemory>
     ensures tree { IfOk result (λ t. t ≡ kind) }
     ensures walk { OnOk result (walk.new ≡ passed walk.old [] []) }
 {
@@ -51,7 +51,7 @@ pub fn constant(walk: &mut Walk, kind: BoundKind) -> Result<BoundKind, OutOfMemo
 }
 
 #[tactic(auto, using(query_tree::proofs::Layers::layers))]
-pub fn var(walk: &mut Walk, item: bool, place: u32, name: &Str) -> Result<BoundKind, OutOfMemory>
+pub fn var(walk: &mut Walk, item: bool, place: u32, name: &Str) -> Result<BoundKind, NoMemory>
     ensures tree { IfOk result (λ t. bound_form t ≡ compiled_form walk.old.names walk.old.number (var_form name.now)) }
     ensures walk { OnOk result (walk.new ≡ behind_form walk.old item place (var_form name.now)) }
 {
@@ -60,7 +60,7 @@ pub fn var(walk: &mut Walk, item: bool, place: u32, name: &Str) -> Result<BoundK
 }
 
 #[tactic(auto, using(query_tree::proofs::Layers::layers))]
-pub fn context(walk: &mut Walk, item: bool, place: u32) -> Result<BoundKind, OutOfMemory>
+pub fn context(walk: &mut Walk, item: bool, place: u32) -> Result<BoundKind, NoMemory>
     ensures tree { IfOk result (λ t. bound_form t ≡ context_form) }
     ensures walk { OnOk result (walk.new ≡ behind_form walk.old item place context_form) }
 {
@@ -69,20 +69,20 @@ pub fn context(walk: &mut Walk, item: bool, place: u32) -> Result<BoundKind, Out
 }
 
 #[tactic(auto, using(crate::proofs::Passing::passings))]
-pub fn name_key(walk: &mut Walk, name: &Str) -> Result<Lookup<Slot, BoundExpr>, OutOfMemory>
+pub fn name_key(walk: &mut Walk, name: &Str) -> Result<Lookup<Slot, BoundExpr>, NoMemory>
     ensures tree { IfOk result (λ t. bound_lookup t ≡ name_lookup name.now) }
     ensures walk { OnOk result (walk.new ≡ passed walk.old [] []) }
 {
-    let name = copied(name)?;
+    let name = name.copy()?;
     Ok(Lookup::Name { name })
 }
 
 #[tactic(auto, using(crate::proofs::Passing::passings))]
-pub fn text_key(walk: &mut Walk, value: &Str) -> Result<Lookup<Slot, BoundExpr>, OutOfMemory>
+pub fn text_key(walk: &mut Walk, value: &Str) -> Result<Lookup<Slot, BoundExpr>, NoMemory>
     ensures tree { IfOk result (λ t. bound_lookup t ≡ text_lookup value.now) }
     ensures walk { OnOk result (walk.new ≡ passed walk.old [] []) }
 {
-    let value = copied(value)?;
+    let value = value.copy()?;
     Ok(Lookup::Text { value })
 }
 
@@ -90,7 +90,7 @@ pub fn var_key(
     walk: &mut Walk,
     item: bool,
     variable: &Placed<Str>,
-) -> Result<Lookup<Slot, BoundExpr>, OutOfMemory>
+) -> Result<Lookup<Slot, BoundExpr>, NoMemory>
     ensures tree { IfOk result (λ t. bound_lookup t ≡ compiled_lookup walk.old.names walk.old.number (var_lookup variable.now)) }
     ensures walk { OnOk result (walk.new ≡ behind_lookup walk.old item (var_lookup variable.now)) }
 {
@@ -106,7 +106,7 @@ pub fn context_key(
     walk: &mut Walk,
     item: bool,
     place: u32,
-) -> Result<Lookup<Slot, BoundExpr>, OutOfMemory>
+) -> Result<Lookup<Slot, BoundExpr>, NoMemory>
     ensures tree { IfOk result (λ t. bound_lookup t ≡ context_lookup place) }
     ensures walk { OnOk result (walk.new ≡ behind_lookup walk.old item (context_lookup place)) }
 {
@@ -114,16 +114,8 @@ pub fn context_key(
     Ok(Lookup::Context { place })
 }
 
-/// The same string.
-pub fn copied(text: &Str) -> Result<Str, OutOfMemory>
-    ensures { IfOk result (λ s. s ≡ text.now) }
-{
-    let text = text.copy()?;
-    Ok(text)
-}
-
 /// The same signs.
-pub fn copied_signs(alloc: Global, signs: &[(SumOp, u32)]) -> Result<Vec<(SumOp, u32)>, OutOfMemory>
+pub fn copied_signs(alloc: Global, signs: &[(SumOp, u32)]) -> Result<Vec<(SumOp, u32)>, NoMemory>
     ensures { IfOk result (λ v. v.items ≡ signs.now) }
 {
     let mut out = Vec::new(alloc);
@@ -134,10 +126,7 @@ pub fn copied_signs(alloc: Global, signs: &[(SumOp, u32)]) -> Result<Vec<(SumOp,
 }
 
 /// The same codes.
-pub fn copied_codes(
-    alloc: Global,
-    codes: &Option<Vec<Str>>,
-) -> Result<Option<Vec<Str>>, OutOfMemory>
+pub fn copied_codes(alloc: Global, codes: &Option<Vec<Str>>) -> Result<Option<Vec<Str>>, NoMemory>
     ensures { IfOk result (λ v. option_map (λ x. x.items) v ≡ option_map (λ x. x.items) codes.now) }
 {
     match codes {
@@ -149,12 +138,12 @@ pub fn copied_codes(
     }
 }
 
-fn copied_strings(alloc: Global, texts: &[Str]) -> Result<Vec<Str>, OutOfMemory>
+fn copied_strings(alloc: Global, texts: &[Str]) -> Result<Vec<Str>, NoMemory>
     ensures { IfOk result (λ v. v.items ≡ texts.now) }
 {
     let mut out = Vec::new(alloc);
     for text in texts {
-        out.push(copied(text)?)?;
+        out.push(text.copy()?)?;
     }
     Ok(out)
 }
@@ -164,7 +153,7 @@ pub fn seq_types(
     alloc: Global,
     walk: &mut Walk,
     types: &[Placed<TypeName>],
-) -> Result<Vec<Placed<SeqType>>, OutOfMemory>
+) -> Result<Vec<Placed<SeqType>>, NoMemory>
     ensures value { IfOk result (λ v. v.items ≡ map placed_type types.now) }
     ensures walk { OnOk result (walk.new ≡ passed walk.old (types_mentions types.now) []) }
 {
@@ -180,7 +169,7 @@ pub fn seq_types(
 pub fn any_type(
     walk: &mut Walk,
     of: &Option<Placed<TypeName>>,
-) -> Result<Option<Placed<SeqType>>, OutOfMemory>
+) -> Result<Option<Placed<SeqType>>, NoMemory>
     ensures value { IfOk result (λ t. t ≡ option_map placed_type of.now) }
     ensures walk { OnOk result (walk.new ≡ passed walk.old (type_mentions of.now) []) }
 {

@@ -8,7 +8,8 @@ ghost use Rattle.static_rules.specs.Sources.{named_tree, bound_form, named_opera
 use crate::exprs::expr;
 use crate::gather::{both, boxed, pushed};
 use crate::leaves::{BoundKind, copied_signs};
-use crate::walk::{OutOfMemory, Walk};
+use crate::walk::Walk;
+use item_tree::NoMemory;
 use query_tree::{
     BoundExpr, CompareOp, Factor, Kind, NamedExpr, Operand, Placed, SumOp, Term, TypeName,
 };
@@ -22,7 +23,7 @@ pub fn comma<'q>(
     item: bool,
     rest: &'q [Operand<NamedExpr>],
     first: &'q NamedExpr,
-) -> Result<BoundKind, OutOfMemory>
+) -> Result<BoundKind, NoMemory>
     ensures tree { IfOk result (λ t. bound_form t ≡ compiled_form walk.old.names walk.old.number (comma_form (named_tree first.now) (named_operands rest.now))) }
     ensures walk { OnOk result (walk.new ≡ behind_form walk.old item 0 (comma_form (named_tree first.now) (named_operands rest.now))) }
 {
@@ -40,7 +41,7 @@ pub fn any_of<'q>(
     item: bool,
     rest: &'q [Operand<NamedExpr>],
     first: &'q NamedExpr,
-) -> Result<BoundKind, OutOfMemory>
+) -> Result<BoundKind, NoMemory>
     ensures tree { IfOk result (λ t. bound_form t ≡ compiled_form walk.old.names walk.old.number (or_form (named_tree first.now) (named_operands rest.now))) }
     ensures walk { OnOk result (walk.new ≡ behind_form walk.old item 0 (or_form (named_tree first.now) (named_operands rest.now))) }
 {
@@ -58,7 +59,7 @@ pub fn all_of<'q>(
     item: bool,
     rest: &'q [Operand<NamedExpr>],
     first: &'q NamedExpr,
-) -> Result<BoundKind, OutOfMemory>
+) -> Result<BoundKind, NoMemory>
     ensures tree { IfOk result (λ t. bound_form t ≡ compiled_form walk.old.names walk.old.number (and_form (named_tree first.now) (named_operands rest.now))) }
     ensures walk { OnOk result (walk.new ≡ behind_form walk.old item 0 (and_form (named_tree first.now) (named_operands rest.now))) }
 {
@@ -76,7 +77,7 @@ pub fn concat<'q>(
     item: bool,
     rest: &'q [Operand<NamedExpr>],
     first: &'q NamedExpr,
-) -> Result<BoundKind, OutOfMemory>
+) -> Result<BoundKind, NoMemory>
     ensures tree { IfOk result (λ t. bound_form t ≡ compiled_form walk.old.names walk.old.number (concat_form (named_tree first.now) (named_operands rest.now))) }
     ensures walk { OnOk result (walk.new ≡ behind_form walk.old item 0 (concat_form (named_tree first.now) (named_operands rest.now))) }
 {
@@ -94,7 +95,7 @@ pub fn mapping<'q>(
     item: bool,
     rest: &'q [Operand<NamedExpr>],
     first: &'q NamedExpr,
-) -> Result<BoundKind, OutOfMemory>
+) -> Result<BoundKind, NoMemory>
     ensures tree { IfOk result (λ t. bound_form t ≡ compiled_form walk.old.names walk.old.number (map_form (named_tree first.now) (named_operands rest.now))) }
     ensures walk { OnOk result (walk.new ≡ behind_form walk.old item 0 (map_form (named_tree first.now) (named_operands rest.now))) }
 {
@@ -112,7 +113,7 @@ pub fn sum<'q>(
     item: bool,
     rest: &'q [Term<NamedExpr>],
     first: &'q NamedExpr,
-) -> Result<BoundKind, OutOfMemory>
+) -> Result<BoundKind, NoMemory>
     ensures tree { IfOk result (λ t. bound_form t ≡ compiled_form walk.old.names walk.old.number (sum_form (named_tree first.now) (named_terms rest.now))) }
     ensures walk { OnOk result (walk.new ≡ behind_form walk.old item 0 (sum_form (named_tree first.now) (named_terms rest.now))) }
 {
@@ -130,7 +131,7 @@ pub fn product<'q>(
     item: bool,
     rest: &'q [Factor<NamedExpr>],
     first: &'q NamedExpr,
-) -> Result<BoundKind, OutOfMemory>
+) -> Result<BoundKind, NoMemory>
     ensures tree { IfOk result (λ t. bound_form t ≡ compiled_form walk.old.names walk.old.number (product_form (named_tree first.now) (named_factors rest.now))) }
     ensures walk { OnOk result (walk.new ≡ behind_form walk.old item 0 (product_form (named_tree first.now) (named_factors rest.now))) }
 {
@@ -150,7 +151,7 @@ pub fn compare<'q>(
     op: CompareOp,
     place: u32,
     right: &'q NamedExpr,
-) -> Result<BoundKind, OutOfMemory>
+) -> Result<BoundKind, NoMemory>
     ensures tree { IfOk result (λ t. bound_form t ≡ compiled_form walk.old.names walk.old.number (compare_form (named_tree left.now) op place (named_tree right.now))) }
     ensures walk { OnOk result (walk.new ≡ behind_form walk.old item 0 (compare_form (named_tree left.now) op place (named_tree right.now))) }
 {
@@ -174,7 +175,7 @@ pub fn range<'q>(
     left: &'q NamedExpr,
     place: u32,
     right: &'q NamedExpr,
-) -> Result<BoundKind, OutOfMemory>
+) -> Result<BoundKind, NoMemory>
     ensures tree { IfOk result (λ t. bound_form t ≡ compiled_form walk.old.names walk.old.number (range_form (named_tree left.now) place (named_tree right.now))) }
     ensures walk { OnOk result (walk.new ≡ behind_form walk.old item 0 (range_form (named_tree left.now) place (named_tree right.now))) }
 {
@@ -191,7 +192,7 @@ pub fn negation<'q>(
     walk: &mut Walk<'q>,
     item: bool,
     operand: &'q NamedExpr,
-) -> Result<BoundKind, OutOfMemory>
+) -> Result<BoundKind, NoMemory>
     ensures tree { IfOk result (λ t. bound_form t ≡ compiled_form walk.old.names walk.old.number (not_form (named_tree operand.now))) }
     ensures walk { OnOk result (walk.new ≡ behind_form walk.old item 0 (not_form (named_tree operand.now))) }
 {
@@ -207,7 +208,7 @@ pub fn sign<'q>(
     item: bool,
     signs: &[(SumOp, u32)],
     operand: &'q NamedExpr,
-) -> Result<BoundKind, OutOfMemory>
+) -> Result<BoundKind, NoMemory>
     ensures tree { IfOk result (λ t. bound_form t ≡ compiled_form walk.old.names walk.old.number (sign_form signs.now (named_tree operand.now))) }
     ensures walk { OnOk result (walk.new ≡ behind_form walk.old item 0 (sign_form signs.now (named_tree operand.now))) }
 {
@@ -226,7 +227,7 @@ pub fn instance<'q>(
     operand: &'q NamedExpr,
     place: u32,
     of: &Placed<TypeName>,
-) -> Result<BoundKind, OutOfMemory>
+) -> Result<BoundKind, NoMemory>
     ensures tree { IfOk result (λ t. bound_form t ≡ compiled_form walk.old.names walk.old.number (instance_form (named_tree operand.now) place of.now)) }
     ensures walk { OnOk result (walk.new ≡ behind_form walk.old item 0 (instance_form (named_tree operand.now) place of.now)) }
 {
@@ -244,7 +245,7 @@ pub fn treat<'q>(
     operand: &'q NamedExpr,
     place: u32,
     to: &Placed<TypeName>,
-) -> Result<BoundKind, OutOfMemory>
+) -> Result<BoundKind, NoMemory>
     ensures tree { IfOk result (λ t. bound_form t ≡ compiled_form walk.old.names walk.old.number (treat_form (named_tree operand.now) place to.now)) }
     ensures walk { OnOk result (walk.new ≡ behind_form walk.old item 0 (treat_form (named_tree operand.now) place to.now)) }
 {
@@ -262,7 +263,7 @@ pub fn castable<'q>(
     operand: &'q NamedExpr,
     place: u32,
     to: &Placed<TypeName>,
-) -> Result<BoundKind, OutOfMemory>
+) -> Result<BoundKind, NoMemory>
     ensures tree { IfOk result (λ t. bound_form t ≡ compiled_form walk.old.names walk.old.number (castable_form (named_tree operand.now) place to.now)) }
     ensures walk { OnOk result (walk.new ≡ behind_form walk.old item 0 (castable_form (named_tree operand.now) place to.now)) }
 {
@@ -280,7 +281,7 @@ pub fn cast<'q>(
     operand: &'q NamedExpr,
     place: u32,
     to: &Placed<TypeName>,
-) -> Result<BoundKind, OutOfMemory>
+) -> Result<BoundKind, NoMemory>
     ensures tree { IfOk result (λ t. bound_form t ≡ compiled_form walk.old.names walk.old.number (cast_form (named_tree operand.now) place to.now)) }
     ensures walk { OnOk result (walk.new ≡ behind_form walk.old item 0 (cast_form (named_tree operand.now) place to.now)) }
 {
@@ -295,7 +296,7 @@ fn operands<'q>(
     walk: &mut Walk<'q>,
     item: bool,
     parts: &'q [Operand<NamedExpr>],
-) -> Result<Vec<Operand<BoundExpr>>, OutOfMemory>
+) -> Result<Vec<Operand<BoundExpr>>, NoMemory>
     ensures tree { IfOk result (λ t. bound_operands t.items ≡ compiled_operands walk.old.names walk.old.number (named_operands parts.now)) }
     ensures walk { OnOk result (walk.new ≡ behind_operands walk.old item (named_operands parts.now)) }
 {
@@ -313,7 +314,7 @@ fn operand<'q>(
     walk: &mut Walk<'q>,
     item: bool,
     part: &'q Operand<NamedExpr>,
-) -> Result<Operand<BoundExpr>, OutOfMemory>
+) -> Result<Operand<BoundExpr>, NoMemory>
     ensures tree { IfOk result (λ t. bound_operand t ≡ compiled_operand walk.old.names walk.old.number (named_operand part.now)) }
     ensures walk { OnOk result (walk.new ≡ behind_operand walk.old item (named_operand part.now)) }
 {
@@ -330,7 +331,7 @@ fn terms<'q>(
     walk: &mut Walk<'q>,
     item: bool,
     parts: &'q [Term<NamedExpr>],
-) -> Result<Vec<Term<BoundExpr>>, OutOfMemory>
+) -> Result<Vec<Term<BoundExpr>>, NoMemory>
     ensures tree { IfOk result (λ t. bound_terms t.items ≡ compiled_terms walk.old.names walk.old.number (named_terms parts.now)) }
     ensures walk { OnOk result (walk.new ≡ behind_terms walk.old item (named_terms parts.now)) }
 {
@@ -348,7 +349,7 @@ fn term<'q>(
     walk: &mut Walk<'q>,
     item: bool,
     part: &'q Term<NamedExpr>,
-) -> Result<Term<BoundExpr>, OutOfMemory>
+) -> Result<Term<BoundExpr>, NoMemory>
     ensures tree { IfOk result (λ t. bound_term t ≡ compiled_term walk.old.names walk.old.number (named_term part.now)) }
     ensures walk { OnOk result (walk.new ≡ behind_term walk.old item (named_term part.now)) }
 {
@@ -366,7 +367,7 @@ fn factors<'q>(
     walk: &mut Walk<'q>,
     item: bool,
     parts: &'q [Factor<NamedExpr>],
-) -> Result<Vec<Factor<BoundExpr>>, OutOfMemory>
+) -> Result<Vec<Factor<BoundExpr>>, NoMemory>
     ensures tree { IfOk result (λ t. bound_factors t.items ≡ compiled_factors walk.old.names walk.old.number (named_factors parts.now)) }
     ensures walk { OnOk result (walk.new ≡ behind_factors walk.old item (named_factors parts.now)) }
 {
@@ -384,7 +385,7 @@ fn factor<'q>(
     walk: &mut Walk<'q>,
     item: bool,
     part: &'q Factor<NamedExpr>,
-) -> Result<Factor<BoundExpr>, OutOfMemory>
+) -> Result<Factor<BoundExpr>, NoMemory>
     ensures tree { IfOk result (λ t. bound_factor t ≡ compiled_factor walk.old.names walk.old.number (named_factor part.now)) }
     ensures walk { OnOk result (walk.new ≡ behind_factor walk.old item (named_factor part.now)) }
 {

@@ -7,9 +7,9 @@ ghost use Rattle.static_rules.specs.Sources.{named_tree, bound_form, named_conte
 
 use crate::exprs::expr;
 use crate::gather::{both, boxed, pushed};
-use crate::leaves::{BoundKind, copied};
-use crate::walk::{OutOfMemory, Walk};
-use item_tree::Str;
+use crate::leaves::BoundKind;
+use crate::walk::Walk;
+use item_tree::{NoMemory, Str};
 use query_tree::{BoundExpr, Kind, NamedExpr, Pair};
 use std::alloc::Global;
 
@@ -20,7 +20,7 @@ pub fn paren<'q>(
     walk: &mut Walk<'q>,
     item: bool,
     inner: &'q Option<Box<NamedExpr>>,
-) -> Result<BoundKind, OutOfMemory>
+) -> Result<BoundKind, NoMemory>
     ensures tree { IfOk result (λ t. bound_form t ≡ compiled_form walk.old.names walk.old.number (paren_form (named_content inner.now))) }
     ensures walk { OnOk result (walk.new ≡ behind_form walk.old item 0 (paren_form (named_content inner.now))) }
 {
@@ -35,7 +35,7 @@ pub fn merge<'q>(
     walk: &mut Walk<'q>,
     item: bool,
     inner: &'q Option<Box<NamedExpr>>,
-) -> Result<BoundKind, OutOfMemory>
+) -> Result<BoundKind, NoMemory>
     ensures tree { IfOk result (λ t. bound_form t ≡ compiled_form walk.old.names walk.old.number (merge_form (named_content inner.now))) }
     ensures walk { OnOk result (walk.new ≡ behind_form walk.old item 0 (merge_form (named_content inner.now))) }
 {
@@ -50,7 +50,7 @@ pub fn array<'q>(
     walk: &mut Walk<'q>,
     item: bool,
     inner: &'q Option<Box<NamedExpr>>,
-) -> Result<BoundKind, OutOfMemory>
+) -> Result<BoundKind, NoMemory>
     ensures tree { IfOk result (λ t. bound_form t ≡ compiled_form walk.old.names walk.old.number (array_form (named_content inner.now))) }
     ensures walk { OnOk result (walk.new ≡ behind_form walk.old item 0 (array_form (named_content inner.now))) }
 {
@@ -65,7 +65,7 @@ fn content<'q>(
     walk: &mut Walk<'q>,
     item: bool,
     content: &'q Option<Box<NamedExpr>>,
-) -> Result<Option<Box<BoundExpr>>, OutOfMemory>
+) -> Result<Option<Box<BoundExpr>>, NoMemory>
     ensures tree { IfOk result (λ t. bound_content t ≡ compiled_content walk.old.names walk.old.number (named_content content.now)) }
     ensures walk { OnOk result (walk.new ≡ behind_content walk.old item (named_content content.now)) }
 {
@@ -82,7 +82,7 @@ fn one<'q>(
     walk: &mut Walk<'q>,
     item: bool,
     e: &'q NamedExpr,
-) -> Result<Option<Box<BoundExpr>>, OutOfMemory>
+) -> Result<Option<Box<BoundExpr>>, NoMemory>
     ensures tree { IfOk result (λ t. bound_content t ≡ one_tree (compiled walk.old.names walk.old.number (named_tree e.now))) }
     ensures walk { OnOk result (walk.new ≡ behind_tree walk.old item (named_tree e.now)) }
 {
@@ -97,7 +97,7 @@ pub fn object<'q>(
     walk: &mut Walk<'q>,
     item: bool,
     inner: &'q [Pair<NamedExpr>],
-) -> Result<BoundKind, OutOfMemory>
+) -> Result<BoundKind, NoMemory>
     ensures tree { IfOk result (λ t. bound_form t ≡ compiled_form walk.old.names walk.old.number (object_form (named_pairs inner.now))) }
     ensures walk { OnOk result (walk.new ≡ behind_form walk.old item 0 (object_form (named_pairs inner.now))) }
 {
@@ -111,7 +111,7 @@ fn pairs<'q>(
     walk: &mut Walk<'q>,
     item: bool,
     parts: &'q [Pair<NamedExpr>],
-) -> Result<Vec<Pair<BoundExpr>>, OutOfMemory>
+) -> Result<Vec<Pair<BoundExpr>>, NoMemory>
     ensures tree { IfOk result (λ t. bound_pairs t.items ≡ compiled_pairs walk.old.names walk.old.number (named_pairs parts.now)) }
     ensures walk { OnOk result (walk.new ≡ behind_pairs walk.old item (named_pairs parts.now)) }
 {
@@ -129,7 +129,7 @@ fn pair<'q>(
     walk: &mut Walk<'q>,
     item: bool,
     part: &'q Pair<NamedExpr>,
-) -> Result<Pair<BoundExpr>, OutOfMemory>
+) -> Result<Pair<BoundExpr>, NoMemory>
     ensures tree { IfOk result (λ t. bound_pair t ≡ compiled_pair walk.old.names walk.old.number (source_pair part.now)) }
     ensures walk { OnOk result (walk.new ≡ behind_pair walk.old item (source_pair part.now)) }
 {
@@ -150,11 +150,11 @@ fn plain_pair<'q>(
     name: &Str,
     place: u32,
     value: &'q NamedExpr,
-) -> Result<Pair<BoundExpr>, OutOfMemory>
+) -> Result<Pair<BoundExpr>, NoMemory>
     ensures tree { IfOk result (λ t. bound_pair t ≡ named_pair name.now place (compiled walk.old.names walk.old.number (named_tree value.now))) }
     ensures walk { OnOk result (walk.new ≡ behind_tree walk.old item (named_tree value.now)) }
 {
-    let name = copied(name)?;
+    let name = name.copy()?;
     let value = expr(alloc, walk, item, value)?;
     Ok(Pair::Named { name, place, value })
 }
@@ -168,7 +168,7 @@ fn computed_pair<'q>(
     key: &'q NamedExpr,
     place: u32,
     value: &'q NamedExpr,
-) -> Result<Pair<BoundExpr>, OutOfMemory>
+) -> Result<Pair<BoundExpr>, NoMemory>
     ensures tree { IfOk result (λ t. bound_pair t ≡ compiled_pair walk.old.names walk.old.number (computed_pair (named_tree key.now) place (named_tree value.now))) }
     ensures walk { OnOk result (walk.new ≡ behind_pair walk.old item (computed_pair (named_tree key.now) place (named_tree value.now))) }
 {
@@ -187,7 +187,7 @@ pub fn call<'q>(
     place: u32,
     function: &Str,
     arguments: &'q [NamedExpr],
-) -> Result<BoundKind, OutOfMemory>
+) -> Result<BoundKind, NoMemory>
     ensures tree { IfOk result (λ t. bound_form t ≡ compiled_form walk.old.names walk.old.number (call_form function.now (named_trees arguments.now))) }
     ensures walk { OnOk result (walk.new ≡ behind_form walk.old item place (call_form function.now (named_trees arguments.now))) }
 {
@@ -206,7 +206,7 @@ pub fn trees<'q>(
     walk: &mut Walk<'q>,
     item: bool,
     parts: &'q [NamedExpr],
-) -> Result<Vec<BoundExpr>, OutOfMemory>
+) -> Result<Vec<BoundExpr>, NoMemory>
     ensures tree { IfOk result (λ t. bound_trees t.items ≡ compiled_trees walk.old.names walk.old.number (named_trees parts.now)) }
     ensures walk { OnOk result (walk.new ≡ behind_trees walk.old item (named_trees parts.now)) }
 {

@@ -10,8 +10,8 @@ use crate::exprs::expr;
 use crate::flwor::bound;
 use crate::gather::{both, boxed, pushed};
 use crate::leaves::BoundKind;
-use crate::walk::{OutOfMemory, Walk};
-use item_tree::Str;
+use crate::walk::Walk;
+use item_tree::{NoMemory, Str};
 use query_tree::{Bind, BoundExpr, Kind, NamedExpr, Quantifier, Slot, TypeName};
 use seq_types::SeqType;
 use std::alloc::Global;
@@ -25,7 +25,7 @@ pub fn quantified<'q>(
     inner: &'q [Bind<Str, TypeName, NamedExpr>],
     quantifier: Quantifier,
     test: &'q NamedExpr,
-) -> Result<BoundKind, OutOfMemory>
+) -> Result<BoundKind, NoMemory>
     ensures tree { IfOk result (λ t. bound_form t ≡ compiled_form walk.old.names walk.old.number (quant_form quantifier (named_binds inner.now) (named_tree test.now))) }
     ensures walk { OnOk result (walk.new ≡ behind_form walk.old item 0 (quant_form quantifier (named_binds inner.now) (named_tree test.now))) }
 {
@@ -47,7 +47,7 @@ fn binds<'q>(
     walk: &mut Walk<'q>,
     item: bool,
     parts: &'q [Bind<Str, TypeName, NamedExpr>],
-) -> Result<Vec<Bind<Slot, SeqType, BoundExpr>>, OutOfMemory>
+) -> Result<Vec<Bind<Slot, SeqType, BoundExpr>>, NoMemory>
     ensures tree { IfOk result (λ t. bound_binds t.items ≡ compiled_binds walk.old.names walk.old.number (named_binds parts.now)) }
     ensures walk { OnOk result (walk.new ≡ behind_binds walk.old item (named_binds parts.now)) }
 {
@@ -65,7 +65,7 @@ fn bind<'q>(
     walk: &mut Walk<'q>,
     item: bool,
     part: &'q Bind<Str, TypeName, NamedExpr>,
-) -> Result<Bind<Slot, SeqType, BoundExpr>, OutOfMemory>
+) -> Result<Bind<Slot, SeqType, BoundExpr>, NoMemory>
     ensures tree { IfOk result (λ t. bound_bind t ≡ compiled_bind walk.old.names walk.old.number (named_bind part.now)) }
     ensures walk { OnOk result (walk.new ≡ behind_bind walk.old item (named_bind part.now)) }
 {

@@ -8,8 +8,8 @@ ghost use Rattle.static_rules.specs.Sources.{named_tree, bound_form, named_looku
 use crate::exprs::expr;
 use crate::gather::{both, boxed, pushed};
 use crate::leaves::{BoundKind, context_key, name_key, text_key, var_key};
-use crate::walk::{OutOfMemory, Walk};
-use item_tree::Str;
+use crate::walk::Walk;
+use item_tree::{NoMemory, Str};
 use query_tree::{BoundExpr, Kind, Lookup, NamedExpr, Slot, Step};
 use std::alloc::Global;
 
@@ -21,7 +21,7 @@ pub fn postfix<'q>(
     item: bool,
     rest: &'q [Step<Str, NamedExpr>],
     primary: &'q NamedExpr,
-) -> Result<BoundKind, OutOfMemory>
+) -> Result<BoundKind, NoMemory>
     ensures tree { IfOk result (λ t. bound_form t ≡ compiled_form walk.old.names walk.old.number (postfix_form (named_tree primary.now) (named_steps rest.now))) }
     ensures walk { OnOk result (walk.new ≡ behind_form walk.old item 0 (postfix_form (named_tree primary.now) (named_steps rest.now))) }
 {
@@ -37,7 +37,7 @@ fn steps<'q>(
     walk: &mut Walk<'q>,
     item: bool,
     parts: &'q [Step<Str, NamedExpr>],
-) -> Result<Vec<Step<Slot, BoundExpr>>, OutOfMemory>
+) -> Result<Vec<Step<Slot, BoundExpr>>, NoMemory>
     ensures tree { IfOk result (λ t. bound_steps t.items ≡ compiled_steps walk.old.names walk.old.number (named_steps parts.now)) }
     ensures walk { OnOk result (walk.new ≡ behind_steps walk.old item (named_steps parts.now)) }
 {
@@ -55,7 +55,7 @@ fn step<'q>(
     walk: &mut Walk<'q>,
     item: bool,
     part: &'q Step<Str, NamedExpr>,
-) -> Result<Step<Slot, BoundExpr>, OutOfMemory>
+) -> Result<Step<Slot, BoundExpr>, NoMemory>
     ensures tree { IfOk result (λ t. bound_step t ≡ compiled_step walk.old.names walk.old.number (named_step part.now)) }
     ensures walk { OnOk result (walk.new ≡ behind_step walk.old item (named_step part.now)) }
 {
@@ -75,7 +75,7 @@ fn member<'q>(
     item: bool,
     place: u32,
     position: &'q NamedExpr,
-) -> Result<Step<Slot, BoundExpr>, OutOfMemory>
+) -> Result<Step<Slot, BoundExpr>, NoMemory>
     ensures tree { IfOk result (λ t. bound_step t ≡ member_step place (compiled walk.old.names walk.old.number (named_tree position.now))) }
     ensures walk { OnOk result (walk.new ≡ behind_tree walk.old item (named_tree position.now)) }
 {
@@ -91,7 +91,7 @@ fn filter<'q>(
     item: bool,
     place: u32,
     test: &'q NamedExpr,
-) -> Result<Step<Slot, BoundExpr>, OutOfMemory>
+) -> Result<Step<Slot, BoundExpr>, NoMemory>
     ensures tree { IfOk result (λ t. bound_step t ≡ filter_step place (compiled walk.old.names walk.old.number (named_tree test.now))) }
     ensures walk { OnOk result (walk.new ≡ behind_step walk.old item (filter_step place (named_tree test.now))) }
 {
@@ -107,7 +107,7 @@ fn field<'q>(
     item: bool,
     place: u32,
     part: &'q Lookup<Str, NamedExpr>,
-) -> Result<Step<Slot, BoundExpr>, OutOfMemory>
+) -> Result<Step<Slot, BoundExpr>, NoMemory>
     ensures tree { IfOk result (λ t. bound_step t ≡ field_step place (compiled_lookup walk.old.names walk.old.number (named_lookup part.now))) }
     ensures walk { OnOk result (walk.new ≡ behind_lookup walk.old item (named_lookup part.now)) }
 {
@@ -122,7 +122,7 @@ fn lookup<'q>(
     walk: &mut Walk<'q>,
     item: bool,
     part: &'q Lookup<Str, NamedExpr>,
-) -> Result<Lookup<Slot, BoundExpr>, OutOfMemory>
+) -> Result<Lookup<Slot, BoundExpr>, NoMemory>
     ensures tree { IfOk result (λ t. bound_lookup t ≡ compiled_lookup walk.old.names walk.old.number (named_lookup part.now)) }
     ensures walk { OnOk result (walk.new ≡ behind_lookup walk.old item (named_lookup part.now)) }
 {
@@ -142,7 +142,7 @@ fn computed_key<'q>(
     walk: &mut Walk<'q>,
     item: bool,
     value: &'q NamedExpr,
-) -> Result<Lookup<Slot, BoundExpr>, OutOfMemory>
+) -> Result<Lookup<Slot, BoundExpr>, NoMemory>
     ensures tree { IfOk result (λ t. bound_lookup t ≡ computed_lookup (compiled walk.old.names walk.old.number (named_tree value.now))) }
     ensures walk { OnOk result (walk.new ≡ behind_tree walk.old item (named_tree value.now)) }
 {

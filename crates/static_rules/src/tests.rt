@@ -1,7 +1,6 @@
 use crate::gather::{both, boxed, pushed};
-use crate::walk::OutOfMemory;
 use crate::{CompileFault, compile};
-use item_tree::{Str, Whole};
+use item_tree::{NoMemory, Str, Whole};
 use query_tree::{
     BoundExpr, Compiled, Expr, Function, Kind, Module, NamedExpr, Operand, Param, Placed, Query,
     Slot, Target, TypeName, Variable,
@@ -9,7 +8,7 @@ use query_tree::{
 use std::alloc::Global;
 use std::test::Fail;
 
-type Made<T> = Result<T, OutOfMemory>;
+type Made<T> = Result<T, NoMemory>;
 
 type NamedFunction = Function<Str, Str, TypeName>;
 

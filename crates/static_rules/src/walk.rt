@@ -23,30 +23,8 @@ use crate::{Refusal, Rule};
 use item_tree::{FnId, NoMemory, Str};
 use query_tree::{NamedExpr, Placed, Slot, Target, TypeName};
 use seq_types::SeqType;
-use std::alloc::{AllocError, AllocFailed, Global};
+use std::alloc::Global;
 use std::marker::Model;
-
-/// Memory ran out.
-#[derive(Clone, Copy, Debug)]
-pub struct OutOfMemory;
-
-impl From<AllocError> for OutOfMemory {
-    fn from(_e: AllocError) -> OutOfMemory {
-        OutOfMemory
-    }
-}
-
-impl<T: Drop> From<AllocFailed<T>> for OutOfMemory {
-    fn from(_e: AllocFailed<T>) -> OutOfMemory {
-        OutOfMemory
-    }
-}
-
-impl From<NoMemory> for OutOfMemory {
-    fn from(_e: NoMemory) -> OutOfMemory {
-        OutOfMemory
-    }
-}
 
 /// A variable that is bound where the walk stands.
 #[derive(Clone, Copy)]
@@ -92,13 +70,13 @@ impl<'q> Walk<'q> {
 
     /// Takes the number of the next binding.
     #[tactic(auto, unfolding(crate::specs::Openings::numbered))]
-    pub fn count(&mut self) -> Result<u32, OutOfMemory>
+    pub fn count(&mut self) -> Result<u32, NoMemory>
         ensures number { IfOk result (λ n. n ≡ self.old.number) }
         ensures walk { OnOk result (self.new ≡ numbered self.old) }
     {
         let number = self.number;
         let Some(next) = number.checked_add(1) else {
-            return Err(OutOfMemory);
+            return Err(NoMemory);
         };
         self.number = next;
         Ok(number)
@@ -117,7 +95,7 @@ impl<'q> Walk<'q> {
         &mut self,
         variable: &Placed<Str>,
         position: &Option<Placed<Str>>,
-    ) -> Result<(), OutOfMemory>
+    ) -> Result<(), NoMemory>
         ensures { OnOk result (self.new ≡ passed self.old (position_mentions variable.now position.now) (any_name position.now)) }
     {
         match position {
@@ -132,7 +110,7 @@ impl<'q> Walk<'q> {
 
     /// Binds a variable.
     #[tactic(auto, unfolding(crate::specs::Openings::bound_to))]
-    pub fn bind(&mut self, name: &'q Str, number: u32) -> Result<(), OutOfMemory>
+    pub fn bind(&mut self, name: &'q Str, number: u32) -> Result<(), NoMemory>
         ensures { OnOk result (self.new ≡ bound_to self.old name.now number) }
     {
         self.names.push(Binding {
@@ -150,7 +128,7 @@ impl<'q> Walk<'q> {
         number: u32,
         position: &'q Option<Placed<Str>>,
         next: u32,
-    ) -> Result<(), OutOfMemory>
+    ) -> Result<(), NoMemory>
         ensures { OnOk result (self.new ≡ bound_for self.old name.now number position.now next) }
     {
         self.bind(name, number)?;
@@ -162,7 +140,7 @@ impl<'q> Walk<'q> {
 
     /// Binds a variable, with the next number.
     #[tactic(auto, unfolding(crate::specs::Openings::opened, crate::specs::Openings::numbered, crate::specs::Openings::bound_to))]
-    pub fn open(&mut self, name: &'q Str) -> Result<u32, OutOfMemory>
+    pub fn open(&mut self, name: &'q Str) -> Result<u32, NoMemory>
         ensures number { IfOk result (λ n. n ≡ self.old.number) }
         ensures walk { OnOk result (self.new ≡ opened self.old name.now) }
     {
@@ -176,7 +154,7 @@ impl<'q> Walk<'q> {
     pub fn open_any(
         &mut self,
         variable: &'q Option<Placed<Str>>,
-    ) -> Result<Option<Placed<Slot>>, OutOfMemory>
+    ) -> Result<Option<Placed<Slot>>, NoMemory>
         ensures value { IfOk result (λ x. x ≡ any_binding variable.now self.old.number) }
         ensures walk { OnOk result (self.new ≡ opened_any self.old variable.now) }
     {
@@ -257,7 +235,7 @@ impl<'q> Walk<'q> {
         place: u32,
         name: &Str,
         arguments: &[NamedExpr],
-    ) -> Result<Target, OutOfMemory>
+    ) -> Result<Target, NoMemory>
         ensures value { IfOk result (λ t. t ≡ target_of self.old.names name.now (named_trees arguments.now)) }
         ensures walk { OnOk result (self.new ≡ passed self.old (mention_at place (calls name.now (named_trees arguments.now) self.old.names.functions) ∷ []) []) }
     {
@@ -269,7 +247,7 @@ impl<'q> Walk<'q> {
         self.call_function(place, name, arguments.len())
     }
 
-    fn call_function(&mut self, place: u32, name: &Str, arity: usize) -> Result<Target, OutOfMemory>
+    fn call_function(&mut self, place: u32, name: &Str, arity: usize) -> Result<Target, NoMemory>
         ensures value { IfOk result (λ t. t ≡ function_or_own (function_named name.now arity) (own_number self.old.names.functions name.now arity)) }
         ensures walk { OnOk result (self.new ≡ tested self.old (not (is_built_in name.now arity || has_callee self.old.names.functions name.now arity)) UnknownFunction place) }
     {
@@ -378,12 +356,12 @@ impl<'q> Walk<'q> {
 
     /// Binds the declared variable with this number.
     #[tactic(auto, unfolding(crate::specs::Declarations::bound_global))]
-    pub fn declare(&mut self, name: &'q Str, number: usize) -> Result<Slot, OutOfMemory>
+    pub fn declare(&mut self, name: &'q Str, number: usize) -> Result<Slot, NoMemory>
         ensures slot { IfOk result (λ s. s ≡ Slot.Global number) }
         ensures walk { OnOk result (self.new ≡ bound_global self.old name.now number) }
     {
         let Ok(number) = u32::try_from(number) else {
-            return Err(OutOfMemory);
+            return Err(NoMemory);
         };
         let slot = Slot::Global(number);
         self.names.push(Binding { name, slot })?;
@@ -438,12 +416,12 @@ fn latest(names: &[Binding], name: &Str) -> Option<Slot>
 }
 
 // The declared function that is called.
-fn own_target(own: Option<usize>) -> Result<Target, OutOfMemory>
+fn own_target(own: Option<usize>) -> Result<Target, NoMemory>
     ensures { IfOk result (λ t. t ≡ Own (unwrap_or own 0)) }
 {
     match u32::try_from(own.unwrap_or(0)) {
         Ok(number) => Ok(Target::Own(number)),
-        Err(_) => Err(OutOfMemory),
+        Err(_) => Err(NoMemory),
     }
 }
 
