@@ -11,6 +11,10 @@ abbrev pub bytes_text : List ℕ → List ℕ
 bytes_text [] = []
 bytes_text (b ∷ bs) = byte_text b ++ bytes_text bs
 
+-- the bytes of a string between its quotes
+abbrev pub quoted_text : List ℕ → List ℕ
+quoted_text bs = 34 ∷ bytes_text bs ++ 34 ∷ []
+
 -- a byte whose text is an escape
 abbrev pub is_escaped : ℕ → Bool
 is_escaped b = not (is_raw b)

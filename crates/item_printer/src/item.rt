@@ -7,7 +7,7 @@ use crate::append::append;
 use crate::array::print_array;
 use crate::number::{print_decimal, print_integer};
 use crate::object::print_object;
-use crate::string::print_string;
+use crate::string::{print_date, print_string};
 use item_tree::{Item, NoMemory};
 
 /// Appends the item's compact JSON text.
@@ -24,6 +24,8 @@ pub fn print_item(item: &Item, out: &mut Vec<u8>) -> Result<(), NoMemory>
         Item::Int(n) => print_integer(*n, out),
         Item::Dec(m) => print_decimal(*m, out),
         Item::Text(text) => print_string(text, out),
+        Item::Date(day) => print_date(&day.text(), out),
+        Item::DateTime(moment) => print_date(&moment.text(), out),
         Item::Array(items) => print_array(items.as_slice(), out),
         Item::Object(pairs) => print_object(pairs.as_slice(), out),
     }

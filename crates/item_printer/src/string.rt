@@ -2,18 +2,33 @@ ghost use Rattle.std.specs.Prelude.{◌≡◌, ◌<◌, ◌++◌, true, false, O
 ghost use Rattle.std.specs.Fmt.{digit_glyph};
 ghost use Rattle.item_tree.specs.ItemText.{string_text, control_text};
 ghost use Rattle.item_printer.specs.Cut.{IsCut};
-ghost use Rattle.item_printer.specs.StringBytes.{byte_text, bytes_text, is_escaped};
+ghost use Rattle.item_printer.specs.StringBytes.{byte_text, bytes_text, quoted_text, is_escaped};
 
 use crate::append::{append, append_byte};
-use item_tree::{NoMemory, Str};
+use item_tree::{DateText, NoMemory, Str};
 
-#[tactic(auto, using(crate::proofs::Cuts::cuts, crate::proofs::StringTexts::characters_text_of))]
 pub(crate) fn print_string(text: &Str, out: &mut Vec<u8>) -> Result<(), NoMemory>
     ensures ok { OnOk result (out.new.items ≡ out.old.items ++ string_text text.now) }
     ensures err { OnErr result (IsCut (string_text text.now) out.old.items out.new.items) }
 {
+    print_quoted(text.as_str().as_bytes(), out)
+}
+
+// The text of a date or date-time, as a string.
+pub(crate) fn print_date(text: &DateText, out: &mut Vec<u8>) -> Result<(), NoMemory>
+    ensures ok { OnOk result (out.new.items ≡ out.old.items ++ string_text text.now) }
+    ensures err { OnErr result (IsCut (string_text text.now) out.old.items out.new.items) }
+{
+    print_quoted(text.as_str().as_bytes(), out)
+}
+
+#[tactic(auto, using(crate::proofs::Cuts::cuts))]
+fn print_quoted(bytes: &[u8], out: &mut Vec<u8>) -> Result<(), NoMemory>
+    ensures ok { OnOk result (out.new.items ≡ out.old.items ++ quoted_text bytes.now) }
+    ensures err { OnErr result (IsCut (quoted_text bytes.now) out.old.items out.new.items) }
+{
     append_byte(b'"', out)?;
-    print_bytes(text.as_str().as_bytes(), out)?;
+    print_bytes(bytes, out)?;
     append_byte(b'"', out)
 }
 

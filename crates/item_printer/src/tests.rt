@@ -1,5 +1,5 @@
 use crate::print_item;
-use item_tree::{Item, Str, Units, Whole, array_of, object_of};
+use item_tree::{Day, Item, Moment, Str, Units, Whole, array_of, object_of};
 use std::alloc::Global;
 use std::test::Fail;
 
@@ -96,6 +96,21 @@ fn prints_strings(rt: HostRuntime) -> Result<(), Fail> {
         let text = printed(alloc, &string(alloc, text)?)?;
         assert_eq!(rt; text.as_str(), want);
     }
+    Ok(())
+}
+
+#[test]
+fn prints_dates(rt: HostRuntime) -> Result<(), Fail> {
+    let alloc = rt.alloc();
+    let Some(day) = Day::new(2024, 2, 29) else {
+        assert!(rt; false);
+        return Ok(());
+    };
+    let text = printed(alloc, &Item::Date(day))?;
+    assert_eq!(rt; text.as_str(), "\"2024-02-29\"");
+    let moment = Moment::new(day, 5_400_500_000_000);
+    let text = printed(alloc, &Item::DateTime(moment))?;
+    assert_eq!(rt; text.as_str(), "\"2024-02-29T01:30:00.5Z\"");
     Ok(())
 }
 
