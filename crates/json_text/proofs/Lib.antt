@@ -12,6 +12,7 @@ pub mod BuildLemmas
 pub mod ReadingLemmas
 pub mod FitLemmas
 pub mod SoundItems
+pub mod UndatedItems
 pub mod Utf8Lemmas
 pub mod LoopLemmas
 pub mod NumeralTexts

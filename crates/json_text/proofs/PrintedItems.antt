@@ -1,10 +1,13 @@
--- The text of an item reads as the item, with an equal integer in place of each decimal whose value is whole.
+-- The text of an item reads as the item, with an equal integer in place of each decimal whose value is whole,
+-- and a string in place of each date and date-time.
 use Rattle.std.specs.Prelude.{◌≡◌, ◌≢◌, ◌<◌, ◌≤◌, ℕ, suc, ◌+◌, Bool, true, false, List, [], ◌∷◌, ◌++◌, Ok, refl}
 use Rattle.std.specs.Str.{bytes_eq}
 use Rattle.std.proofs.Common.{sym, ◌∙◌, ap, subst, inl, arith, append_assoc, append-nil}
 use Rattle.std.proofs.lemmas.Bool.{lt-ltb, false_from_ne_true}
 use Rattle.std.proofs.lemmas.Slice.Eq.{bytes_eq-Decides}
-use Rattle.item_tree.specs.Datum.{Datum, null, boolean, integer, decimal, text, array, object, Data, no_values, value, Members, no_members, member, listed, pairs, values_listed, members_pairs, array_of_list, object_of_pairs, depth, data_depth, members_depth, Sound, AllSound, MembersSound, NoneHas, KeysDiffer}
+use Rattle.item_tree.specs.Datum.{Datum, null, boolean, integer, decimal, text, date, date_time, array, object, Data, no_values, value, Members, no_members, member, listed, pairs, values_listed, members_pairs, array_of_list, object_of_pairs, depth, data_depth, members_depth, Sound, AllSound, MembersSound, NoneHas, KeysDiffer}
+use Rattle.item_tree.specs.Dates.{date_text, date_time_text}
+use Rattle.item_tree.proofs.DateTexts.{date_scalars, date_time_scalars}
 use Rattle.item_tree.specs.ItemText.{item_text, values_text, more_values_text, members_text, more_members_text, string_text}
 use Rattle.item_tree.specs.JsonString.{IsString}
 use Rattle.json_text.specs.Raw.{Raw, raw_null, raw_boolean, raw_number, raw_string, raw_array, raw_object, Raws, no_raws, raw_value, Fields, no_fields, field}
@@ -104,6 +107,10 @@ mutual
   item_prints (integer n) around r s h = let k = integer_prints n s in record { raw = raw_number k.numeral; written = k.written r; gives = k.gives }
   item_prints (decimal m) around r s h = let k = decimal_prints m s in record { raw = raw_number k.numeral; written = k.written r; gives = k.gives }
   item_prints (text cs) around r s h = record { raw = raw_string cs; written = string_prints cs r s; gives = refl }
+  item_prints (date d) around r s h =
+      record { raw = raw_string (date_text d); written = string_prints (date_text d) r (date_scalars d); gives = refl }
+  item_prints (date_time t) around r s h =
+      record { raw = raw_string (date_time_text t); written = string_prints (date_time_text t) r (date_time_scalars t); gives = refl }
   item_prints (array vs) around r s h =
       let k = values_print vs (suc around) r s.0 (omega arith) in
       record {
@@ -181,6 +188,8 @@ sound_depth (boolean b) s = omega arith
 sound_depth (integer n) s = omega arith
 sound_depth (decimal m) s = omega arith
 sound_depth (text cs) s = omega arith
+sound_depth (date d) s = omega arith
+sound_depth (date_time t) s = omega arith
 sound_depth (array vs) s = let d = s.1 in omega arith
 sound_depth (object ms) s = let d = s.2 in omega arith
 

@@ -19,7 +19,7 @@ use Rattle.json_text.proofs.FitLemmas.{all_depth, pairs_depth, pairs_put, keys_p
 
 -- ---- outcomes that are Ok
 
-same_ok : {A : Type 0} (x y : A) → ◌≡◌ {A = Outcome A} (Ok x) (Ok y) → x ≡ y
+pub same_ok : {A : Type 0} (x y : A) → ◌≡◌ {A = Outcome A} (Ok x) (Ok y) → x ≡ y
 same_ok x y h = cc
 
 pub record IsBracketed {A : Type 0} (around : ℕ) (f : A → Datum) (r : Outcome A) (x : Datum) : Type 0 where
@@ -28,7 +28,7 @@ pub record IsBracketed {A : Type 0} (around : ℕ) (f : A → Datum) (r : Outcom
   pub was : r ≡ Ok inside
   pub made : f inside ≡ x
 
-bracketed_ok : {A : Type 0} (around : ℕ) (f : A → Datum) (r : Outcome A) (x : Datum) → bracketed around f r ≡ Ok x → IsBracketed around f r x
+pub bracketed_ok : {A : Type 0} (around : ℕ) (f : A → Datum) (r : Outcome A) (x : Datum) → bracketed around f r ≡ Ok x → IsBracketed around f r x
 bracketed_ok around f (Ok y) x = by (nat_lt around 128) refl
   where
     by : (b : Bool) → nat_lt around 128 ≡ b → cond b (Ok (f y)) (Err too_deep) ≡ Ok x → IsBracketed around f (Ok y) x
@@ -47,7 +47,7 @@ pub record AreTogether {A B C : Type 0} (f : A → B → C) (r : Outcome A) (s :
   pub other : s ≡ Ok rest
   pub made : f first rest ≡ z
 
-together_ok : {A B C : Type 0} (f : A → B → C) (r : Outcome A) (s : Outcome B) (z : C) → together f r s ≡ Ok z → AreTogether f r s z
+pub together_ok : {A B C : Type 0} (f : A → B → C) (r : Outcome A) (s : Outcome B) (z : C) → together f r s ≡ Ok z → AreTogether f r s z
 together_ok f (Ok x) (Ok y) z h = record { first = x; rest = y; one = refl; other = refl; made = same_ok _ _ h }
 together_ok f (Ok x) (Err t) z h = absurd cc
 together_ok f (Err t) s z h = absurd cc

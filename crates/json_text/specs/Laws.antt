@@ -7,6 +7,7 @@ use Rattle.json_text.specs.Raw.{Raw}
 use Rattle.json_text.specs.Json.{Json}
 use Rattle.json_text.specs.Line.{Reading, item, ReadsAs}
 use Rattle.json_text.specs.Plain.{plain}
+use Rattle.json_text.specs.Undated.{Undated}
 use Rattle.json_text.specs.Build.{reading}
 
 -- a text says one raw value
@@ -26,6 +27,11 @@ pub record ReadingIsExact : Type 0 where
 abbrev pub ItemsAreSound : Type 0
 ItemsAreSound = (line : List ℕ) (x : Datum) → ReadsAs line (item x) → Sound x
 
--- the text of an item reads as the item, with an equal integer in place of each decimal whose value is whole
+-- no line reads as an item with a date or date-time in it
+abbrev pub ItemsAreUndated : Type 0
+ItemsAreUndated = (line : List ℕ) (x : Datum) → ReadsAs line (item x) → Undated x
+
+-- the text of an item reads as the item, with an equal integer in place of each decimal whose value
+-- is whole, and a string in place of each date and date-time
 abbrev pub PrintedReadsBack : Type 0
 PrintedReadsBack = (x : Datum) → Sound x → ReadsAs (item_text x) (item (plain x))

@@ -8,4 +8,5 @@ pub mod Machine
 pub mod Build
 pub mod Fits
 pub mod Plain
+pub mod Undated
 pub mod Laws

@@ -1,7 +1,7 @@
 //! Laws of the definitions, each the contract of a function that does nothing. Each holds of all
 //! values: a call brings it to a proof, and does nothing when it runs.
 
-ghost use Rattle.json_text.specs.Laws.{OneRawValue, TextsAreUtf8, ReadingIsExact, ItemsAreSound, PrintedReadsBack};
+ghost use Rattle.json_text.specs.Laws.{OneRawValue, TextsAreUtf8, ReadingIsExact, ItemsAreSound, ItemsAreUndated, PrintedReadsBack};
 
 /// A text of JSON says one raw value.
 pub fn one_raw_value()
@@ -23,8 +23,13 @@ pub fn items_are_sound()
     ensures { ItemsAreSound }
 {}
 
+/// No line reads as an item with a date or date-time in it.
+pub fn items_are_undated()
+    ensures { ItemsAreUndated }
+{}
+
 /// The text of an item reads as the item, with an equal integer in place of each decimal whose
-/// value is whole, at every depth.
+/// value is whole, and a string in place of each date and date-time, at every depth.
 pub fn printed_reads_back()
     ensures { PrintedReadsBack }
 {}
