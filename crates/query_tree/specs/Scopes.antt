@@ -5,7 +5,7 @@ use Rattle.item_tree.specs.Functions.{takes_arity}
 use Rattle.seq_types.specs.declared.types.SeqType.{SeqType}
 use Rattle.seq_types.specs.declared.types.SeqType.TheVariants.{Empty, Of}
 use Rattle.seq_types.specs.declared.types.ItemType.{ItemType}
-use Rattle.seq_types.specs.declared.types.ItemType.TheVariants.{Text, Integer, Decimal, Boolean, Null}
+use Rattle.seq_types.specs.declared.types.ItemType.TheVariants.{Text, Integer, Decimal, Boolean, Null, Date, DateTime}
 use Rattle.seq_types.specs.declared.types.Times.{Times}
 use Rattle.seq_types.specs.declared.types.Times.TheVariants.{One, Optional}
 use Rattle.query_tree.specs.declared.bound.Slot.{Slot}
@@ -84,6 +84,8 @@ is_atomic_name Integer = true
 is_atomic_name Decimal = true
 is_atomic_name Boolean = true
 is_atomic_name Null = true
+is_atomic_name Date = true
+is_atomic_name DateTime = true
 is_atomic_name _ = false
 
 abbrev pub is_at_most_one : Times → Bool
@@ -91,7 +93,7 @@ is_at_most_one One = true
 is_at_most_one Optional = true
 is_at_most_one _ = false
 
--- whether a cast may have this type: at most one string, integer, decimal, boolean or null
+-- whether a cast may have this type: at most one string, integer, decimal, boolean, null, date or date-time
 abbrev pub is_cast_type : SeqType → Bool
 is_cast_type Empty = false
 is_cast_type (Of item times) = is_atomic_name item && is_at_most_one times

@@ -55,7 +55,8 @@ abbrev pub is_unknown_type : Mention → Bool
 is_unknown_type (has_type t) = not (is_empty_sequence t || is_some (type_named t.name t.parens))
 is_unknown_type _ = false
 
--- a type that a cast cannot have: it has at most one string, integer, decimal, boolean or null
+-- a type that a cast cannot have: it has at most one string, integer, decimal, boolean, null, date or
+-- date-time
 abbrev pub is_unknown_cast_type : Mention → Bool
 is_unknown_cast_type (casts_to t) = not (is_atomic_type (type_named t.name t.parens) && is_at_most_one t.times)
 is_unknown_cast_type _ = false

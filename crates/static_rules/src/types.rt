@@ -77,7 +77,9 @@ fn is_atomic(found: Option<ItemType>) -> bool
         | Some(ItemType::Integer)
         | Some(ItemType::Decimal)
         | Some(ItemType::Boolean)
-        | Some(ItemType::Null) => true,
+        | Some(ItemType::Null)
+        | Some(ItemType::Date)
+        | Some(ItemType::DateTime) => true,
         _ => false,
     }
 }
