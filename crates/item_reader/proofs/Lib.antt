@@ -6,3 +6,4 @@ pub mod Frames
 pub mod MemberSteps
 pub mod Turning
 pub mod ReadingSteps
+pub mod Inputs

@@ -1,13 +1,16 @@
 -- What a line reads as, by what is built of it.
 use Rattle.std.specs.Prelude.{◌≡◌, ℕ, true, false, List, Option, Some, option_map, refl}
-use Rattle.std.proofs.Common.{sym, ◌∙◌, ap}
-use Rattle.json_text.specs.Line.{blank, is_blank}
+use Rattle.std.proofs.Common.{sym, ◌∙◌, ap, subst}
+use Rattle.json_text.specs.Line.{Reading, blank, is_blank, ReadsAs}
 use Rattle.json_text.specs.Build as b
-use Rattle.json_text.proofs.ReadingLemmas.{never_building}
+use Rattle.json_text.proofs.ReadingLemmas.{never_building, reading_exact}
 use Rattle.item_reader.specs.declared.build.Build.{Build}
 use Rattle.item_reader.specs.declared.build.Progress.{Progress}
 use Rattle.item_reader.specs.declared.build.Progress.TheVariants.{Open}
 use Rattle.item_reader.specs.View.{build_of, progress_of, frames_of}
+
+pub reads_as : (line : List ℕ) (r : Reading) → b.reading line ≡ r → ReadsAs line r
+reads_as line r e = subst (ReadsAs line) e (reading_exact.read line)
 
 pub reads_blank : (line : List ℕ) → is_blank line ≡ true → b.reading line ≡ blank
 unfolding b.reading

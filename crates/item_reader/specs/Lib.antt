@@ -1,5 +1,7 @@
 pub mod Lines
 pub mod Reading
+pub mod Laws
+pub mod inside
 pub mod Faults
 pub mod Outcomes
 pub mod Tokens

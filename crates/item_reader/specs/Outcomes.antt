@@ -1,8 +1,8 @@
 -- What a call that reads a line answers, told by the line's reading.
-use Rattle.std.specs.Prelude.{◌≡◌, Option, None, Some, IfSome}
+use Rattle.std.specs.Prelude.{◌≡◌, ℕ, List, Option, None, Some, IfSome, Result, Ok, Err}
 use Rattle.item_tree.specs.declared.item.Item.{Item}
 use Rattle.item_tree.specs.Item.{datum}
-use Rattle.json_text.specs.Line.{Reading, blank, item, fault}
+use Rattle.json_text.specs.Line.{Reading, blank, item, fault, ReadsAs}
 use Rattle.item_reader.specs.declared.fault.LineFault.{LineFault}
 use Rattle.item_reader.specs.Faults.{code_of}
 
@@ -14,3 +14,9 @@ Gives r (Some x) = r ≡ item (datum x)
 -- the reading is the code of this fault; of want of memory, which has none, this says nothing
 abbrev pub Raises : Reading → LineFault → Type 0
 Raises r f = IfSome (code_of f) (λ c. r ≡ fault c)
+
+-- the line reads as what a call answers; where memory ran out, this says nothing
+abbrev pub AnswersLine : List ℕ → Result (Option Item) LineFault → Type 0
+AnswersLine line (Ok None) = ReadsAs line blank
+AnswersLine line (Ok (Some x)) = ReadsAs line (item (datum x))
+AnswersLine line (Err f) = IfSome (code_of f) (λ c. ReadsAs line (fault c))

@@ -1,22 +1,29 @@
--- What the lines of an input read as together.
-use Rattle.std.specs.Prelude.{ℕ, List, [], ◌∷◌, Result, Ok, Err}
+-- What an input reads as: its lines, one by one, each as JSON's grammar and meaning have it.
+use Rattle.std.specs.Prelude.{◌≡◌, ℕ, List, [], ◌∷◌, Result, Ok, Err}
 use Rattle.item_tree.specs.Datum.{Datum}
 use Rattle.item_tree.specs.declared.code.Code.{Code}
-use Rattle.json_text.specs.Line.{Reading, blank, item, fault}
-use Rattle.json_text.specs.Build.{reading}
+use Rattle.json_text.specs.Line.{Reading, blank, item, fault, ReadsAs}
 use Rattle.item_reader.specs.Lines.{Line, lines}
 
--- the items of lines, of which this is the first; or the fault of the first that has one
-abbrev pub read_before : Reading → Result (List Datum) Code → Result (List Datum) Code
+-- the items of lines in order, or the code of the first line that is at fault
+abbrev pub Read : Type 0
+Read = Result (List Datum) Code
+
+-- what lines read as, of which the first reads as this and the others together as that
+abbrev pub read_before : Reading → Read → Read
 read_before blank rest = rest
 read_before (item x) (Ok xs) = Ok (x ∷ xs)
 read_before (item x) (Err c) = Err c
 read_before (fault c) rest = Err c
 
-abbrev pub items_of_lines : List Line → Result (List Datum) Code
-items_of_lines [] = Ok []
-items_of_lines (l ∷ ls) = read_before (reading l.bytes) (items_of_lines ls)
+-- each line reads as something, and all of them together as this
+abbrev pub LinesReadAs : List Line → Read → Type 0
+LinesReadAs [] r = r ≡ Ok []
+LinesReadAs (l ∷ ls) r =
+    (first : Reading) × (rest : Read)
+    × ReadsAs l.bytes first × LinesReadAs ls rest × (r ≡ read_before first rest)
 
--- the items of an input, or the code of the first line that has one
-abbrev pub items_of : List ℕ → Result (List Datum) Code
-items_of input = items_of_lines (lines input)
+-- an input reads as its items, or as the code of its first line that is at fault
+-- (as one of these, and only one: that is the law `inputs_are_exact`)
+abbrev pub InputReadsAs : List ℕ → Read → Type 0
+InputReadsAs input r = LinesReadAs (lines input) r

@@ -13,6 +13,7 @@ pub enum LineFault {
     NumberOut,
     /// A bracket opens inside 128 open ones.
     TooDeep,
+    /// There was no memory to read the line. It says nothing of the line.
     NoMemory,
 }
 

@@ -4,6 +4,7 @@
 mod build;
 mod fault;
 mod frame;
+pub mod laws;
 mod members;
 mod number;
 mod read;

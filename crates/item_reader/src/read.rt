@@ -2,7 +2,7 @@ ghost use Rattle.std.specs.Prelude.{◌≡◌, IfOk, IfErr, option_map};
 ghost use Rattle.json_text.specs.Line.{is_blank as is_blank_of, is_line_space as is_line_space_of};
 ghost use Rattle.json_text.specs.Build.{made, reading};
 ghost use Rattle.item_reader.specs.View.{build_of};
-ghost use Rattle.item_reader.specs.Outcomes.{Gives, Raises};
+ghost use Rattle.item_reader.specs.Outcomes.{Gives, Raises, AnswersLine};
 
 use crate::LineFault;
 use crate::build::{Build, Progress, Trouble};
@@ -41,9 +41,13 @@ fn read_text(alloc: Global, line: &[u8]) -> Result<Option<Build>, NoMemory>
 /// The item of a line, and none where the line is blank.
 ///
 /// A blank line has nothing but spaces, tabs and CRs. Any other line must be one text of JSON
-/// (RFC 8259) in UTF-8, else it is `NotJson`. In a text that is well formed the first of two troubles
-/// in text order decides: `NumberOut`, or `TooDeep`. It takes time linear in the line.
+/// (RFC 8259) in UTF-8, else it is `NotJson`. In a text that is well formed the first of two
+/// troubles in text order decides: `NumberOut`, or `TooDeep`. Each byte is looked at a few times
+/// at most, and each key is looked for among those before it in its object.
 pub fn read_item(alloc: Global, line: &[u8]) -> Result<Option<Item>, LineFault>
+    // As the grammar and the meaning of JSON have it.
+    ensures reads { AnswersLine line.now result }
+    // As a reader computes it, which is the same.
     ensures ok { IfOk result (Gives (reading line.now)) }
     ensures err { IfErr result (Raises (reading line.now)) }
 {

@@ -38,6 +38,11 @@ fn answer_of(read: &Result<Option<Item>, LineFault>) -> Answer<'_> {
 }
 
 #[test]
+fn has_laws() {
+    laws::inputs_are_exact();
+}
+
+#[test]
 fn reads_values(rt: HostRuntime) {
     let lines = [
         (b"null".as_slice(), Answer::Null),

@@ -9,7 +9,8 @@ use Rattle.std.proofs.lemmas.Slice.Eq.{starts_is}
 use Rattle.item_tree.specs.Datum.{Datum}
 use Rattle.item_tree.specs.declared.code.Code.{Code}
 use Rattle.item_reader.specs.Lines.{Line, mark, cut, placed, unmarked, without_mark}
-use Rattle.item_reader.specs.Reading.{read_before, items_of, items_of_lines}
+use Rattle.item_reader.specs.Reading.{read_before}
+use Rattle.item_reader.specs.inside.Items.{items_of, items_of_lines}
 use Rattle.json_text.specs.Line.{blank, item, fault, is_blank}
 use Rattle.json_text.specs.Build.{reading}
 use Rattle.item_tree.specs.declared.item.Item.{Item}

@@ -11,7 +11,7 @@ use Rattle.item_tree.specs.Datum.{Datum}
 use Rattle.item_tree.specs.Faults.{fault_at}
 use Rattle.item_tree.specs.ItemText.{item_text}
 use Rattle.item_reader.specs.Lines.{without_mark}
-use Rattle.item_reader.specs.Reading.{items_of}
+use Rattle.item_reader.specs.inside.Items.{items_of}
 use Rattle.outside.specs.World.{World, file_of}
 use Rattle.query_tree.specs.Compiled.{BoundTrees}
 use Rattle.query_grammar.specs.Nodes.{Name}

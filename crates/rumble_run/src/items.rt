@@ -1,7 +1,7 @@
 ghost use Rattle.std.specs.Prelude.{◌≡◌, ◌≤◌, [], ◌∷◌, ◌++◌, length, ◌==◌, position, Ok, Err, IfOk, IfErr, IfSome, OnOk, option_copied};
 ghost use Rattle.item_tree.specs.Item.{datums};
 ghost use Rattle.item_reader.specs.Lines.{cut};
-ghost use Rattle.item_reader.specs.Reading.{items_of};
+ghost use Rattle.item_reader.specs.inside.Items.{items_of};
 ghost use Rattle.item_reader.specs.Faults.{code_of};
 ghost use Rattle.rumble_run.specs.Cuts.{lines_of, left_length};
 

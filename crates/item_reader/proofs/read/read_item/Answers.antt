@@ -3,7 +3,7 @@ use Rattle.std.specs.Prelude.{option_map}
 use Rattle.item_reader.specs.View.{build_of}
 use Rattle.item_reader.specs.declared.build.Progress.TheVariants.{Troubled}
 use Rattle.item_reader.specs.declared.build.Trouble.TheVariants.{NumberOut, TooDeep}
-use Rattle.item_reader.proofs.ReadingSteps.{reads_blank, reads_made, reads_build, never_open}
+use Rattle.item_reader.proofs.ReadingSteps.{reads_as, reads_blank, reads_made, reads_build, never_open}
 use Rattle.item_reader.proofs.read.read_item.Goals as goal
 
 pub returns-then-is_blank-clause-ok : goal.returns-then-is_blank-clause-ok
@@ -25,3 +25,18 @@ returns-in-Troubled-NumberOut-clause-err c =
 pub returns-in-Troubled-TooDeep-clause-err : goal.returns-in-Troubled-TooDeep-clause-err
 returns-in-Troubled-TooDeep-clause-err c =
     reads_build c.args.line.now c.in-Ok-Some.field-0 c.in-Ok-Some.build (Troubled TooDeep) (sym c.if-is_blank.ensures) c.in-Ok-Some.ensures c.in-Ok-Some.field-0-is (ap Troubled (sym c.in-Troubled-TooDeep.field-0-is) ∙ c.in-Troubled-TooDeep.ensures)
+
+pub returns-then-is_blank-clause-reads : goal.returns-then-is_blank-clause-reads
+returns-then-is_blank-clause-reads c = reads_as c.args.line.now _ (returns-then-is_blank-clause-ok c)
+
+pub returns-in-Ok-None-clause-reads : goal.returns-in-Ok-None-clause-reads
+returns-in-Ok-None-clause-reads c = reads_as c.args.line.now _ (returns-in-Ok-None-clause-err c)
+
+pub returns-in-Done-clause-reads : goal.returns-in-Done-clause-reads
+returns-in-Done-clause-reads c = reads_as c.args.line.now _ (returns-in-Done-clause-ok c)
+
+pub returns-in-Troubled-NumberOut-clause-reads : goal.returns-in-Troubled-NumberOut-clause-reads
+returns-in-Troubled-NumberOut-clause-reads c = reads_as c.args.line.now _ (returns-in-Troubled-NumberOut-clause-err c)
+
+pub returns-in-Troubled-TooDeep-clause-reads : goal.returns-in-Troubled-TooDeep-clause-reads
+returns-in-Troubled-TooDeep-clause-reads c = reads_as c.args.line.now _ (returns-in-Troubled-TooDeep-clause-err c)
