@@ -4,6 +4,7 @@ use Rattle.std.specs.Prelude.{◌≡◌, ◌⊎◌, ◌<◌, ℕ, zero, suc, ◌
 use Rattle.std.proofs.Common.{sym, ◌∙◌, ap, subst, arith, inl, inr}
 use Rattle.std.proofs.lemmas.List.{reverse-append, length-reverse}
 use Rattle.num_fixed.specs.Numeral.{Numeral}
+use Rattle.num_fixed.specs.Values.{said}
 use Rattle.item_tree.specs.Datum.{Datum, text}
 use Rattle.json_text.specs.Machine as m
 use Rattle.json_text.specs.Meaning.{number_out}
@@ -90,7 +91,7 @@ pub turn_text : (f : Bool) (old : State) (cs : List ℕ) (new : State) (t : m.To
 turn_text f old cs new t e s =
     subst (λ y. IsTurn (m.value f) old y More new) (sym e) (turn_steps (m.value f) old (m.characters cs) new (m.a_string cs) m.after (kinds_of old.kinds.items) (λ k. refl) (added_steps old (text cs) new (m.a_string cs) (λ fs. refl) s) tt)
 
-settled : (n : Numeral) (y : Datum) → b.number_outcome (b.number_said n) ≡ Ok y → (fs : List b.Frame) → b.act (m.a_number n) fs ≡ b.add y fs
+settled : (n : Numeral) (y : Datum) → b.number_outcome (said n) ≡ Ok y → (fs : List b.Frame) → b.act (m.a_number n) fs ≡ b.add y fs
 settled n y e fs = ap (λ o. b.settle o fs) e
 
 pub turn_atom : (f : Bool) (old : State) (y : Datum) (new : State) (t : m.Token) → IsAtom y t → IsAdded old y new → IsTurn (m.value f) old t More new

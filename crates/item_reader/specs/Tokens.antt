@@ -4,7 +4,8 @@ use Rattle.item_tree.specs.Datum.{Datum, null, boolean}
 use Rattle.item_tree.specs.Item.{datum}
 use Rattle.json_text.specs.Meaning.{number_out}
 use Rattle.json_text.specs.Machine as m
-use Rattle.json_text.specs.Build.{number_said, number_outcome}
+use Rattle.num_fixed.specs.Values.{said}
+use Rattle.json_text.specs.Build.{number_outcome}
 use Rattle.item_reader.specs.declared.token.Token.{Token}
 use Rattle.item_reader.specs.declared.token.Token.TheVariants.{OpenArray, CloseArray, OpenObject, CloseObject, Comma, Colon, Atom, NumberOut, End, Bad}
 
@@ -12,11 +13,11 @@ use Rattle.item_reader.specs.declared.token.Token.TheVariants.{OpenArray, CloseA
 abbrev pub IsAtom : Datum → m.Token → Type 0
 IsAtom x m.null_word = x ≡ null
 IsAtom x (m.boolean_word b) = x ≡ boolean b
-IsAtom x (m.numeral n) = number_outcome (number_said n) ≡ Ok x
+IsAtom x (m.numeral n) = number_outcome (said n) ≡ Ok x
 IsAtom x _ = ⊥
 
 abbrev pub IsNumberOut : m.Token → Type 0
-IsNumberOut (m.numeral n) = number_outcome (number_said n) ≡ Err number_out
+IsNumberOut (m.numeral n) = number_outcome (said n) ≡ Err number_out
 IsNumberOut _ = ⊥
 
 abbrev pub StandsFor : Token → m.Token → Type 0

@@ -10,7 +10,8 @@ use Rattle.item_tree.specs.Datum.{Datum, null, boolean, text, array_of_list, obj
 use Rattle.item_tree.specs.Made.{HasDeep, HasDeepPair}
 use Rattle.json_text.specs.Meaning.{put, put_all, number_datum}
 use Rattle.json_text.specs.Machine.{Event, opens_array, opens_object, closes, keyed, a_null, a_boolean, a_number, a_string}
-use Rattle.json_text.specs.Build.{Frame, open_array, open_object, Build, building, done, troubled, add, settle, close, set_key, push_frame, perform, in_bounds, number_outcome, number_said}
+use Rattle.json_text.specs.Build.{Frame, open_array, open_object, Build, building, done, troubled, add, settle, close, set_key, push_frame, perform, number_outcome}
+use Rattle.num_fixed.specs.Values.{number_in_bounds, said}
 use Rattle.json_text.specs.Fits.{AllFit, PairsFit, FrameFits, FramesFit, BuildFits}
 
 pub all_depth : (around : ℕ) (xs : List Datum) → around ≤ 128 → AllFit around xs → data_depth (values xs) + around ≤ 128
@@ -75,7 +76,7 @@ number_flat (Int n) = refl
 number_flat (Dec m) = refl
 
 number_fits : (x : Number) (fs : List Frame) → FramesFit fs → BuildFits (settle (number_outcome x) fs)
-number_fits x fs f = cond_both (in_bounds x) _ _ (λ o. BuildFits (settle o fs)) (λ _. atom_fits (number_datum x) fs (number_flat x) f) (λ _. tt)
+number_fits x fs f = cond_both (number_in_bounds x) _ _ (λ o. BuildFits (settle o fs)) (λ _. atom_fits (number_datum x) fs (number_flat x) f) (λ _. tt)
 
 pub perform_fits : (b : Build) (e : Event) → BuildFits b → BuildFits (perform b e)
 perform_fits (building fs) opens_array f = push_fits (open_array []) fs tt f
@@ -84,7 +85,7 @@ perform_fits (building fs) closes f = close_fits fs f
 perform_fits (building fs) (keyed k) f = key_fits k fs f
 perform_fits (building fs) a_null f = atom_fits null fs refl f
 perform_fits (building fs) (a_boolean b) f = atom_fits (boolean b) fs refl f
-perform_fits (building fs) (a_number n) f = number_fits (number_said n) fs f
+perform_fits (building fs) (a_number n) f = number_fits (said n) fs f
 perform_fits (building fs) (a_string cs) f = atom_fits (text cs) fs refl f
 perform_fits (done x) e f = f
 perform_fits (troubled t) e f = tt

@@ -4,14 +4,15 @@ use Rattle.std.proofs.Common.{◌∙◌, ap}
 use Rattle.item_tree.specs.Datum.{Datum, null, boolean, text, array_of_list}
 use Rattle.json_text.specs.Raw.{Raw, raw_null, raw_boolean, raw_number, raw_string, raw_array, raw_object, Raws, no_raws, raw_value, Fields, no_fields, field}
 use Rattle.json_text.specs.Meaning.{Outcome, together, bracketed, object_of_fields, Gives, AllGive, FieldsGive}
-use Rattle.json_text.specs.Build.{number_said, number_outcome}
+use Rattle.num_fixed.specs.Values.{said}
+use Rattle.json_text.specs.Build.{number_outcome}
 use Rattle.json_text.proofs.NumberLemmas.{number_gives, number_gives_one}
 
 abbrev mutual
   pub item_of : ℕ → Raw → Outcome Datum
   item_of around raw_null = Ok null
   item_of around (raw_boolean b) = Ok (boolean b)
-  item_of around (raw_number n) = number_outcome (number_said n)
+  item_of around (raw_number n) = number_outcome (said n)
   item_of around (raw_string cs) = Ok (text cs)
   item_of around (raw_array vs) = bracketed around array_of_list (items_of (suc around) vs)
   item_of around (raw_object fs) = bracketed around object_of_fields (pairs_of (suc around) fs)

@@ -9,7 +9,8 @@ use Rattle.item_tree.specs.declared.code.Code.TheVariants.{JNDY0021, PJDY0002, P
 use Rattle.json_text.specs.Line.{Reading, blank, item, fault, ReadsAs}
 use Rattle.json_text.specs.Scan.{digits_at, numeral_at, pieces_at}
 use Rattle.json_text.specs.Machine.{token_from, token_at, run_for, run}
-use Rattle.json_text.specs.Build.{nearest, units_of, reading}
+use Rattle.num_fixed.specs.Values.{near_natural, near, units_said}
+use Rattle.json_text.specs.Build.{reading}
 use Rattle.json_text.proofs.ReadingLemmas.{reads}
 
 abbrev pub Row : Type 0
@@ -55,7 +56,7 @@ number_rows =
     ∷ []
 
 numbers_read : AllRead number_rows
-unfolding number_rows no_json reading run run_for token_at token_from numeral_at digits_at nearest units_of
+unfolding number_rows no_json reading run run_for token_at token_from numeral_at digits_at near_natural near units_said
 numbers_read = all_read number_rows refl
 
 string_rows : List Row
@@ -104,7 +105,7 @@ text_rows =
     ∷ []
 
 texts_read : AllRead text_rows
-unfolding text_rows no_json reading run run_for token_at token_from pieces_at chars is_utf8 encode numeral_at digits_at nearest units_of
+unfolding text_rows no_json reading run run_for token_at token_from pieces_at chars is_utf8 encode numeral_at digits_at near_natural near units_said
 texts_read = all_read text_rows refl
 
 nested : ℕ → Datum
@@ -121,5 +122,5 @@ deep_rows =
     ∷ []
 
 deep_read : AllRead deep_rows
-unfolding deep_rows nested no_json reading run run_for token_at token_from numeral_at digits_at nearest units_of
+unfolding deep_rows nested no_json reading run run_for token_at token_from numeral_at digits_at near_natural near units_said
 deep_read = all_read deep_rows refl

@@ -10,10 +10,11 @@ use Rattle.item_tree.specs.Datum.{Datum, array_of_list, values, members, depth, 
 use Rattle.json_text.specs.Raw.{Raw, raw_null, raw_boolean, raw_number, raw_string, raw_array, raw_object, Raws, no_raws, raw_value, Fields, no_fields, field}
 use Rattle.json_text.specs.Json.{Value, Elements, MoreElements, Members, MoreMembers}
 use Rattle.json_text.specs.Meaning.{too_deep, Outcome, together, bracketed, put, put_all, object_of_fields, number_datum}
-use Rattle.json_text.specs.Build.{number_said, number_outcome, in_bounds}
+use Rattle.num_fixed.specs.Values.{number_in_bounds, said}
+use Rattle.json_text.specs.Build.{number_outcome}
 use Rattle.json_text.specs.Fits.{AllFit, PairsFit}
 use Rattle.json_text.specs.Laws.{ItemsAreSound}
-use Rattle.json_text.proofs.NumberLemmas.{number_inside}
+use Rattle.num_fixed.proofs.ValueLemmas.{number_inside}
 use Rattle.json_text.proofs.ItemOf.{item_of, items_of, pairs_of, gives_one}
 use Rattle.json_text.proofs.FitLemmas.{all_depth, pairs_depth, pairs_put, keys_put_all}
 
@@ -62,7 +63,7 @@ flat : (around : ℕ) → around ≤ 128 → 0 + around ≤ 128
 flat around h = omega arith
 
 number_sound : (around : ℕ) (a : Number) (x : Datum) → around ≤ 128 → number_outcome a ≡ Ok x → SoundIn around x
-number_sound around a x h = cond_both (in_bounds a) _ _ (λ r. r ≡ Ok x → SoundIn around x) (λ e q. subst (SoundIn around) (same_ok _ _ q) (at_bounds a (number_inside a e))) (λ e q. absurd cc)
+number_sound around a x h = cond_both (number_in_bounds a) _ _ (λ r. r ≡ Ok x → SoundIn around x) (λ e q. subst (SoundIn around) (same_ok _ _ q) (at_bounds a (number_inside a e))) (λ e q. absurd cc)
   where
     at_bounds : (b : Number) → NumberInBounds b → SoundIn around (number_datum b)
     at_bounds (Int n) k = (k, flat around h)
@@ -95,7 +96,7 @@ mutual
   pub value_sound : (v : Raw) (around : ℕ) (l r : List ℕ) (x : Datum) → around ≤ 128 → Value v l r → item_of around v ≡ Ok x → SoundIn around x
   value_sound raw_null around l r x h w e = subst (SoundIn around) (same_ok _ _ e) (tt, flat around h)
   value_sound (raw_boolean b) around l r x h w e = subst (SoundIn around) (same_ok _ _ e) (tt, flat around h)
-  value_sound (raw_number n) around l r x h w e = number_sound around (number_said n) x h e
+  value_sound (raw_number n) around l r x h w e = number_sound around (said n) x h e
   value_sound (raw_string cs) around l r x h w e = subst (SoundIn around) (same_ok _ _ e) (w.scalars, flat around h)
   value_sound (raw_array vs) around l r x h w e =
       let k = bracketed_ok around array_of_list (items_of (suc around) vs) x e in

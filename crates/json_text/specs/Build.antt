@@ -1,43 +1,18 @@
 -- How a reader builds an item from events, and so what it makes of a line. Nothing here is part of what a line reads as: `laws` says that it is the same.
-use Rattle.std.specs.Prelude.{ℕ, ◌+◌, ◌*◌, ◌/◌, ◌%◌, ◌^◌, ◌==◌, nat_lt, Bool, false, ◌&&◌, List, [], ◌∷◌, ◌++◌, length, Option, Some, None, is_none, option_map, Ok, Err, unsigned_abs, if◌then◌else◌}
-use Rattle.num_fixed.specs.Bounds.{bound}
-use Rattle.num_fixed.specs.Numeral.{Numeral, frac_digits, is_minus, number_of, raised, lowered}
-use Rattle.num_fixed.specs.Signs.{with_sign}
-use Rattle.num_fixed.specs.declared.number.Kind.TheVariants.{Whole, Units}
+use Rattle.std.specs.Prelude.{ℕ, nat_lt, Bool, false, List, [], ◌∷◌, ◌++◌, length, Option, Some, None, option_map, Ok, Err, if◌then◌else◌}
+use Rattle.num_fixed.specs.Values.{number_in_bounds, said}
 use Rattle.num_fixed.specs.declared.number.Number.{Number}
-use Rattle.num_fixed.specs.declared.number.Number.TheVariants.{Int, Dec}
 use Rattle.item_tree.specs.Datum.{Datum, null, boolean, text, array_of_list, object_of_pairs}
 use Rattle.item_tree.specs.declared.code.Code.TheVariants.{JNDY0021}
 use Rattle.json_text.specs.Meaning.{Trouble, number_out, too_deep, Outcome, put, number_datum}
 use Rattle.json_text.specs.Line.{Reading, blank, item, fault, code_of, is_blank}
 use Rattle.json_text.specs.Machine.{Event, opens_array, opens_object, closes, keyed, a_null, a_boolean, a_number, a_string, Events, value, run}
 
--- ---- the value of a number
-
--- the natural number nearest to n / d, the even one where two are
-unfoldable pub nearest : ℕ → ℕ → ℕ
-nearest n d =
-    if nat_lt d (2 * (n % d)) then n / d + 1 else
-    if 2 * (n % d) == d then n / d + n / d % 2 else n / d
-
--- the size of a numeral in units of 10^-6
-unfoldable pub units_of : Numeral → ℕ
-units_of n = nearest (number_of 0 (n.int ++ frac_digits n.frac) * 10 ^ (6 + raised n.exp)) (10 ^ (length (frac_digits n.frac) + lowered n.exp))
-
--- an integer where there is neither a point nor an exponent
-abbrev pub number_said : Numeral → Number
-number_said n =
-    if is_none n.frac && is_none n.exp then Int (with_sign (is_minus n.sign) (number_of 0 n.int))
-    else Dec (with_sign (is_minus n.sign) (units_of n))
-
-abbrev pub in_bounds : Number → Bool
-in_bounds (Int n) = nat_lt (unsigned_abs n) (bound Whole)
-in_bounds (Dec m) = nat_lt (unsigned_abs m) (bound Units)
-
-abbrev pub number_outcome : Number → Outcome Datum
-number_outcome x = if in_bounds x then Ok (number_datum x) else Err number_out
-
 -- ---- building
+
+-- a number in bounds, or the trouble that it is out of them
+abbrev pub number_outcome : Number → Outcome Datum
+number_outcome x = if number_in_bounds x then Ok (number_datum x) else Err number_out
 
 -- an open array and its values so far; an open object, its pairs so far, and the key whose value comes
 pub data Frame : Type 0 where
@@ -82,7 +57,7 @@ act closes fs = close fs
 act (keyed k) fs = set_key k fs
 act a_null fs = add null fs
 act (a_boolean b) fs = add (boolean b) fs
-act (a_number n) fs = settle (number_outcome (number_said n)) fs
+act (a_number n) fs = settle (number_outcome (said n)) fs
 act (a_string cs) fs = add (text cs) fs
 
 abbrev pub perform : Build → Event → Build

@@ -199,3 +199,10 @@ told_out n = (over, back)
 
     back : number_in_bounds (said n) ≡ false → IsOutOfBounds n
     back e x h within = number_outside (said n) e (subst NumberInBounds (says_one n x h) within)
+
+-- what a reader of numbers may answer: a number that the numeral says, in bounds, or that it says no such number
+pub said_inside : (n : Numeral) (x : Number) → Says n x → NumberInBounds x → number_in_bounds (said n) ≡ true
+said_inside n x h within = (number_tested (said n)).1 (subst NumberInBounds (says_one n x h) within)
+
+pub said_outside : (n : Numeral) → IsOutOfBounds n → number_in_bounds (said n) ≡ false
+said_outside n h = (told_out n).0 h

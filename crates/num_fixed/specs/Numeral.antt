@@ -17,8 +17,8 @@ pub data Sign : Type 0 where
   plus : Sign
   minus : Sign
 
--- the digits before the point; those behind it, if there is one; and the exponent's sign and digits,
--- if there is one
+-- the digits before the point; those behind it, if there is one; and the exponent's sign and
+-- digits, if there is one
 pub record Numeral : Type 0 where
   pub sign : Sign
   pub int : List ℕ

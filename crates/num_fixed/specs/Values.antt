@@ -86,8 +86,8 @@ abbrev pub raised_digits : Numeral → ℤ
 raised_digits n =
     with_sign (is_minus n.sign) (number_of 0 (n.int ++ frac_digits n.frac) * 10 ^ raised n.exp)
 
--- in units: those digits over the power of ten by which the places behind the point and the exponent
--- lower them
+-- in units: those digits over the power of ten by which the places behind the point and the
+-- exponent lower them
 unfoldable pub units_said : Numeral → ℤ
 units_said n =
     near_unit (raised_digits n) (pos (10 ^ (length (frac_digits n.frac) + lowered n.exp)))

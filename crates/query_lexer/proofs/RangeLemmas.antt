@@ -12,9 +12,7 @@ use Rattle.num_fixed.specs.declared.number.Number.TheVariants.{Int, Dec}
 use Rattle.num_fixed.specs.declared.number.NumFault.{NumFault}
 use Rattle.num_fixed.specs.declared.number.NumFault.TheVariants.{Overflow}
 use Rattle.num_fixed.proofs.NumeralLemmas.{one_numeral}
-use Rattle.json_text.specs.Build.{number_said, in_bounds, number_outcome}
-use Rattle.json_text.specs.Meaning.{number_out, number_datum}
-use Rattle.json_text.proofs.NumberLemmas.{read_in_bounds, read_out_of_bounds}
+use Rattle.num_fixed.proofs.ValueLemmas.{said_inside, said_outside}
 use Rattle.query_lexer.specs.Lexes.{IsOutNumber, IsOut}
 use Rattle.query_lexer.specs.Scan.{digits_length, fraction_of, numeral_of, is_out_number, is_out}
 use Rattle.query_lexer.specs.Words.{IsDigits, IsDec, Fits}
@@ -79,23 +77,11 @@ dec_said w m (a, b, is, ha, hb) (frac, exp, value) = let e = ap (λ t. fraction_
 
 -- ---- whether it says a number in bounds
 
-bounds_from_ok : (x y : Number) → number_outcome x ≡ Ok (number_datum y) → in_bounds x ≡ true
-bounds_from_ok x y h = elim (cases_Bool (in_bounds x)) [
-  | inl e ↦ e
-  | inr e ↦ let never : cond false (Ok (number_datum x)) (Err number_out) ≡ Ok (number_datum y) = ap (λ b. cond b (Ok (number_datum x)) (Err number_out)) (sym e) ∙ h in absurd cc
-]
-
-bounds_from_err : (x : Number) → number_outcome x ≡ Err number_out → in_bounds x ≡ false
-bounds_from_err x h = elim (cases_Bool (in_bounds x)) [
-  | inl e ↦ let never : cond true (Ok (number_datum x)) (Err number_out) ≡ Err number_out = ap (λ b. cond b (Ok (number_datum x)) (Err number_out)) (sym e) ∙ h in absurd cc
-  | inr e ↦ e
-]
-
 inside : (w : List ℕ) (x : Number) → Says (numeral_of w) x → NumberInBounds x → is_out_number w ≡ false
-inside w x s h = ap not (bounds_from_ok (number_said (numeral_of w)) x (read_in_bounds (numeral_of w) x s h))
+inside w x s h = ap not (said_inside (numeral_of w) x s h)
 
 outside : (w : List ℕ) → IsOutOfBounds (numeral_of w) → is_out_number w ≡ true
-outside w h = ap not (bounds_from_err (number_said (numeral_of w)) (read_out_of_bounds (numeral_of w) h))
+outside w h = ap not (said_outside (numeral_of w) h)
 
 pub read_is_out : (w : List ℕ) (r : Result Number NumFault) → IfOk r (λ x. Says (numeral_of w) x × NumberInBounds x) → IfErr r (λ e. (e ≡ Overflow) × IsOutOfBounds (numeral_of w)) → is_err r ≡ is_out_number w
 read_is_out w (Ok x) a b = sym (inside w x a.0 a.1)

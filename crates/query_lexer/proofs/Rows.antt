@@ -5,7 +5,7 @@ use Rattle.std.proofs.lemmas.Bool.{cond_both, ltb-true, ltb-false}
 use Rattle.item_tree.specs.JsonString.{code_unit}
 use Rattle.item_tree.specs.declared.code.Code.{Code}
 use Rattle.item_tree.specs.declared.code.Code.TheVariants.{XPST0003, PJST0004}
-use Rattle.json_text.specs.Build.{nearest, units_of}
+use Rattle.num_fixed.specs.Values.{near_natural, near, units_said}
 use Rattle.json_text.specs.Scan.{pieces_at}
 use Rattle.query_lexer.specs.Bytes.{is_letter, is_name_byte, is_blank, is_mark, is_double_mark}
 use Rattle.query_lexer.specs.Comments.{opens, closes}
@@ -105,7 +105,7 @@ number_rows =
     ∷ []
 
 numbers_hold : AllHold number_rows
-unfolding number_rows step_at token_at name_length fraction_length exponent_length fraction_at exponent_at number_at mark_at numeral_of is_out nearest units_of runs_on is_letter is_name_byte is_blank is_mark is_double_mark opens closes
+unfolding number_rows step_at token_at name_length fraction_length exponent_length fraction_at exponent_at number_at mark_at numeral_of is_out near_natural near units_said runs_on is_letter is_name_byte is_blank is_mark is_double_mark opens closes
 numbers_hold = all_hold number_rows refl
 
 string_rows : List Row

@@ -4,7 +4,7 @@ use Rattle.std.specs.Char.{is_ascii_digit}
 use Rattle.std.specs.List.{prefix_len}
 use Rattle.num_fixed.specs.Numeral.{none, Numeral}
 use Rattle.item_tree.specs.declared.code.Code.TheVariants.{XPST0003, PJST0004}
-use Rattle.json_text.specs.Build.{number_said, in_bounds}
+use Rattle.num_fixed.specs.Values.{number_in_bounds, said}
 use Rattle.json_text.specs.Scan.{Part, string_at}
 use Rattle.query_lexer.specs.Bytes.{is_letter, is_name_byte, is_blank, is_sign, is_mark, is_double_mark, next_passes}
 use Rattle.query_lexer.specs.Comments.{begins_comment, comment_rest}
@@ -76,7 +76,7 @@ unfoldable pub numeral_of : List ℕ → Numeral
 numeral_of w = record { sign = none; int = take (digits_length w) w; frac = fraction_of (drop (digits_length w) w); exp = None }
 
 abbrev pub is_out_number : List ℕ → Bool
-is_out_number w = not (in_bounds (number_said (numeral_of w)))
+is_out_number w = not (number_in_bounds (said (numeral_of w)))
 
 -- a literal that is out of range
 unfoldable pub is_out : TokenKind → List ℕ → Bool

@@ -46,10 +46,12 @@ IsMissedBefore kept left r = IsMissed (number_of 0 (kept ++ left)) (10 ^ length 
 
 -- the same of digits before and behind the point, raised and then lowered by powers of ten
 abbrev pub IsFoundAt : List ℕ → List ℕ → ℕ → ℕ → Option ℕ → Type 0
-IsFoundAt whole fraction up down r = IsFound (number_of 0 (whole ++ fraction) * 10 ^ up) (10 ^ down) r
+IsFoundAt whole fraction up down r =
+    IsFound (number_of 0 (whole ++ fraction) * 10 ^ up) (10 ^ down) r
 
 abbrev pub IsMissedAt : List ℕ → List ℕ → ℕ → ℕ → Option ℕ → Type 0
-IsMissedAt whole fraction up down r = IsMissed (number_of 0 (whole ++ fraction) * 10 ^ up) (10 ^ down) r
+IsMissedAt whole fraction up down r =
+    IsMissed (number_of 0 (whole ++ fraction) * 10 ^ up) (10 ^ down) r
 
 -- in units: raised by the six places that units have and by an exponent, and lowered by the places
 -- behind the point and by an exponent
