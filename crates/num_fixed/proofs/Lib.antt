@@ -10,5 +10,7 @@ pub mod Signs
 pub mod TotalLemmas
 pub mod TextLemmas
 pub mod NumeralLemmas
+pub mod FrontLemmas
+pub mod LongestFronts
 pub mod ValueLemmas
 mod ValueRows

@@ -1,6 +1,7 @@
 -- What the laws say.
-use Rattle.std.specs.Prelude.{◌≡◌, ◌↔◌, ℤ, List, ◌++◌, ℕ, [], false}
+use Rattle.std.specs.Prelude.{◌≡◌, ◌≤◌, ◌↔◌, ◌+◌, ℤ, List, ◌++◌, length, ℕ, [], true, false}
 use Rattle.num_fixed.specs.Bounds.{IsOver}
+use Rattle.num_fixed.specs.Fronts.{has_number, number_end}
 use Rattle.num_fixed.specs.Numeral.{Numeral, IsNumeral}
 use Rattle.num_fixed.specs.Totals.{Tally, joined, tally_of, IsSum}
 use Rattle.num_fixed.specs.Values.{in_bounds}
@@ -39,3 +40,7 @@ StaysBefore n w r = IsNumeral n w [] → IsNumeral n (w ++ r) r
 -- the bytes before the rest r are themselves the numeral
 abbrev pub IsCutFrom : Numeral → List ℕ → List ℕ → Type 0
 IsCutFrom n l r = (w : List ℕ) × (l ≡ w ++ r) × IsNumeral n w []
+
+-- the longest number at the front leaves no more than the rest r
+abbrev pub IsReached : List ℕ → List ℕ → Type 0
+IsReached l r = (has_number l ≡ true) × (length l ≤ length r + number_end l)

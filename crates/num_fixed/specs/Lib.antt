@@ -1,5 +1,6 @@
 pub mod inside
 pub mod Bounds
+pub mod Fronts
 pub mod Laws
 pub mod Nearest
 pub mod Numeral

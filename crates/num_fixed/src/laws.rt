@@ -2,7 +2,8 @@
 ghost use Rattle.std.specs.Prelude.{◌≡◌, ◌≢◌, ◌↔◌, ℕ, ℤ, pos, List, [], ◌++◌, true, false};
 ghost use Rattle.std.specs.Int.RustNames.{int_div, int_rem};
 ghost use Rattle.num_fixed.specs.Bounds.{InBounds, NumberInBounds};
-ghost use Rattle.num_fixed.specs.Laws.{ToldBy, IsMet, IsSingle, IsCounted, IsJoined, IsOneNumeral, StaysBefore, IsCutFrom};
+ghost use Rattle.num_fixed.specs.Fronts.{has_number, numeral_front, behind_front, IsFront};
+ghost use Rattle.num_fixed.specs.Laws.{ToldBy, IsMet, IsSingle, IsCounted, IsJoined, IsOneNumeral, StaysBefore, IsCutFrom, IsReached};
 ghost use Rattle.num_fixed.specs.Nearest.{IsNearest, IsNearestUnit};
 ghost use Rattle.num_fixed.specs.Numeral.{Numeral, IsNumeral, IsOutOfBounds, Says};
 ghost use Rattle.num_fixed.specs.Quotients.{IsDivided, IsProduct, IsTruncated, IsRemainder};
@@ -89,4 +90,11 @@ pub fn numerals()
 pub fn one_number()
     ensures some { (n : Numeral) → (x : Number) × Says n x }
     ensures one { (n : Numeral) → (x : Number) → (y : Number) → Says n x → Says n y → x ≡ y }
+{}
+
+/// Where a number stands at the front of a text, the longest is one, and no number at the front is
+/// longer; where none is found, none stands there.
+pub fn fronts()
+    ensures is { (l : List ℕ) → has_number l ≡ true → IsFront (numeral_front l) l (behind_front l) }
+    ensures longest { (n : Numeral) → (l : List ℕ) → (r : List ℕ) → IsFront n l r → IsReached l r }
 {}

@@ -8,6 +8,7 @@
 
 mod bounds;
 mod digits;
+mod front;
 pub mod laws;
 mod nearest;
 mod number;
@@ -18,6 +19,7 @@ mod scale;
 mod sums;
 mod total;
 
+pub use front::{NumberFront, number_front};
 pub use number::{Kind, NumFault, Number};
 pub use products::{div, idiv, mul};
 pub use read::{is_number, read_number};

@@ -9,6 +9,7 @@ ghost use Rattle.num_fixed.specs.declared.number.NumFault.TheVariants.{Overflow}
 
 use crate::bounds::WHOLE_BOUND;
 use crate::digits::number_of;
+use crate::front::number_front;
 use crate::nearest::with_sign;
 use crate::scale::size_in_units;
 use crate::{NumFault, Number};
@@ -138,10 +139,9 @@ fn read_dec(
     }
 }
 
-/// The number that a text says: an integer where it has neither point nor exponent, and else the
-/// decimal nearest to its value. It takes a text of any length and any exponent, in time linear in
-/// the text, and never answers `ZeroDivisor`.
-pub fn read_number(text: &[u8]) -> Result<Number, NumFault>
+/// The number that a text says, read part by part: an integer where it has neither point nor
+/// exponent, and else a decimal. It takes a text of any length and any exponent.
+pub(crate) fn read_parts(text: &[u8]) -> Result<Number, NumFault>
     requires { IsNumberText text.now }
     ensures value { (n : Numeral) → IsNumeral n text.now [] → IfOk result (IsSaid n) }
     ensures overflow { (n : Numeral) → IsNumeral n text.now [] → IfErr result (IsRefused n) }
@@ -156,4 +156,20 @@ pub fn read_number(text: &[u8]) -> Result<Number, NumFault>
         }
         _ => read_dec(negative, whole, &[], rest),
     }
+}
+
+/// The number that a text says: an integer where it has neither point nor exponent, and else the
+/// decimal nearest to its value. It takes a text of any length and any exponent, in time linear in
+/// the text, and never answers `ZeroDivisor`.
+pub fn read_number(text: &[u8]) -> Result<Number, NumFault>
+    requires { IsNumberText text.now }
+    ensures value { (n : Numeral) → IsNumeral n text.now [] → IfOk result (IsSaid n) }
+    ensures overflow { (n : Numeral) → IsNumeral n text.now [] → IfErr result (IsRefused n) }
+{
+    if let Some(front) = number_front(text) {
+        if front.end == text.len() {
+            return front.value;
+        }
+    }
+    read_parts(text)
 }

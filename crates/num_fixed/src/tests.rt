@@ -327,6 +327,56 @@ fn texts(rt: HostRuntime) {
 }
 
 #[test]
+fn fronts(rt: HostRuntime) {
+    // a text, the number at its front, and where its digits, its fraction and itself end
+    for (text, value, whole, fraction, end) in [
+        (&b"-0.5,"[..], Ok(Dec(-500_000)), 2, 4, 4),
+        (b"12]", Ok(Int(12)), 2, 2, 2),
+        (b"7", Ok(Int(7)), 1, 1, 1),
+        (b".25.5", Ok(Dec(250_000)), 0, 3, 3),
+        (b"1.e5", Ok(Int(1)), 1, 1, 1),
+        (b"1.5e", Ok(Dec(1_500_000)), 1, 3, 3),
+        (b"1e+2e", Ok(Dec(100_000_000)), 1, 1, 4),
+        (b"-12.3456785 ", Ok(Dec(-12_345_678)), 3, 11, 11),
+        (
+            b"999999999999999999x",
+            Ok(Int(999_999_999_999_999_999)),
+            18,
+            18,
+            18,
+        ),
+        (
+            b"18446744073709551617",
+            Ok(Int(18_446_744_073_709_551_617)),
+            20,
+            20,
+            20,
+        ),
+        (
+            b"999999999999.999999",
+            Ok(Dec(999_999_999_999_999_999)),
+            12,
+            19,
+            19,
+        ),
+        (b"0000000000000.999999", Ok(Dec(999_999)), 13, 20, 20),
+        (b"100000000000000000000;", Err(Overflow), 21, 21, 21),
+    ] {
+        let front = number_front(text);
+        assert!(rt; front.is_some());
+        if let Some(front) = front {
+            assert_eq!(rt; front.value, value);
+            assert_eq!(rt; front.whole_end, whole);
+            assert_eq!(rt; front.fraction_end, fraction);
+            assert_eq!(rt; front.end, end);
+        }
+    }
+    for text in [&b""[..], b"-", b"+1", b".", b"-.e1", b"e5", b" 1"] {
+        assert!(rt; number_front(text).is_none());
+    }
+}
+
+#[test]
 fn no_numbers(rt: HostRuntime) {
     for text in [
         &b""[..],
