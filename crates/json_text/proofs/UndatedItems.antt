@@ -8,14 +8,15 @@ use Rattle.num_fixed.specs.declared.number.Number.TheVariants.{Int, Dec}
 use Rattle.item_tree.specs.Datum.{Datum, array_of_list, values, members}
 use Rattle.json_text.specs.Raw.{Raw, raw_null, raw_boolean, raw_number, raw_string, raw_array, raw_object, Raws, no_raws, raw_value, Fields, no_fields, field}
 use Rattle.json_text.specs.Meaning.{put, put_all, object_of_fields, number_datum}
-use Rattle.json_text.specs.Build.{number_said, number_outcome, in_bounds}
+use Rattle.num_fixed.specs.Values.{number_in_bounds, said}
+use Rattle.json_text.specs.Build.{number_outcome}
 use Rattle.json_text.specs.Undated.{Undated, AllUndated, MembersUndated}
 use Rattle.json_text.specs.Laws.{ItemsAreUndated}
 use Rattle.json_text.proofs.ItemOf.{item_of, items_of, pairs_of, gives_one}
 use Rattle.json_text.proofs.SoundItems.{same_ok, bracketed_ok, together_ok}
 
 number_undated : (a : Number) (x : Datum) → number_outcome a ≡ Ok x → Undated x
-number_undated a x = cond_both (in_bounds a) _ _ (λ r. r ≡ Ok x → Undated x) (λ e q. subst Undated (same_ok _ _ q) (of_number a)) (λ e q. absurd cc)
+number_undated a x = cond_both (number_in_bounds a) _ _ (λ r. r ≡ Ok x → Undated x) (λ e q. subst Undated (same_ok _ _ q) (of_number a)) (λ e q. absurd cc)
   where
     of_number : (b : Number) → Undated (number_datum b)
     of_number (Int n) = tt
@@ -33,7 +34,7 @@ mutual
   value_undated : (v : Raw) (around : ℕ) (x : Datum) → item_of around v ≡ Ok x → Undated x
   value_undated raw_null around x e = subst Undated (same_ok _ _ e) tt
   value_undated (raw_boolean b) around x e = subst Undated (same_ok _ _ e) tt
-  value_undated (raw_number n) around x e = number_undated (number_said n) x e
+  value_undated (raw_number n) around x e = number_undated (said n) x e
   value_undated (raw_string cs) around x e = subst Undated (same_ok _ _ e) tt
   value_undated (raw_array vs) around x e =
       let k = bracketed_ok around array_of_list (items_of (suc around) vs) x e in
