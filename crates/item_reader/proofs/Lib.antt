@@ -3,7 +3,6 @@ pub mod TokenSteps
 pub mod NumberSteps
 pub mod StringSteps
 pub mod Frames
-pub mod MemberSteps
 pub mod Turning
 pub mod ReadingSteps
 pub mod Inputs

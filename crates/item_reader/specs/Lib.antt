@@ -7,3 +7,4 @@ pub mod Outcomes
 pub mod Tokens
 pub mod View
 pub mod Turns
+pub mod Strings

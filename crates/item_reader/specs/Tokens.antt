@@ -36,6 +36,16 @@ StandsFor Bad t = t ≡ m.bad
 abbrev pub IsPart : Token → List ℕ → m.Token × List ℕ → Type 0
 IsPart t r p = StandsFor t p.0 × (r ≡ p.1)
 
+-- what stands behind the first letter of null, of true and of false
+abbrev pub behind_n : List ℕ
+behind_n = 117 ∷ 108 ∷ 108 ∷ []
+
+abbrev pub behind_t : List ℕ
+behind_t = 114 ∷ 117 ∷ 101 ∷ []
+
+abbrev pub behind_f : List ℕ
+behind_f = 97 ∷ 108 ∷ 115 ∷ 101 ∷ []
+
 -- a bracket, a comma or a colon
 abbrev pub is_mark : ℕ → Bool
 is_mark b = b == 91 || b == 93 || b == 123 || b == 125 || b == 44 || b == 58

@@ -1,8 +1,13 @@
 -- One turn of the machine, in the code.
-use Rattle.std.specs.Prelude.{◌≡◌, ℕ, List, Bool, true, false, Option, Some, None}
+use denote.Ref.{Bor}
+use Rattle.std.specs.Prelude.{◌≡◌, ℕ, List, ◌∷◌, Bool, true, false, Option, Some, None, Result, IfOk}
 use Rattle.json_text.specs.Machine as m
 use Rattle.json_text.specs.Build as b
+use Rattle.num_fixed.specs.Numeral.{Numeral}
 use Rattle.item_tree.specs.Datum.{Datum}
+use Rattle.item_tree.specs.declared.fault.NoMemory.{NoMemory}
+use Rattle.item_reader.specs.Tokens.{StandsFor, IsNumberOut, IsPart}
+use Rattle.item_reader.specs.declared.token.Token.{Token}
 use Rattle.item_reader.specs.View.{build_of, mode_of, kinds_of, on_frames}
 use Rattle.json_text.specs.Fits.{BuildFits}
 use Rattle.item_reader.specs.declared.turn.State.{State}
@@ -18,6 +23,10 @@ turn_gives More s k = goes s k
 turn_gives End s k = Some (build_of s.build)
 turn_gives NotJson s k = None
 
+-- what comes of the text from this token on
+abbrev pub turn_wants : m.Mode → State → m.Token → m.Next → Option b.Build
+turn_wants mode s t k = b.outcome (build_of s.build) (m.step mode (kinds_of s.kinds.items) t k)
+
 -- more comes only behind a token that takes a byte
 abbrev pub Takes : m.Token → Turn → Type 0
 Takes m.end More = ⊥
@@ -30,8 +39,9 @@ TurnFits End s = Unit {0}
 TurnFits NotJson s = Unit {0}
 
 -- in this mode the token makes this turn of the one state to the other
-pub record IsTurn (mode : m.Mode) (old : State) (t : m.Token) (r : Turn) (new : State) : Type 0 where
-  pub gives : (k : m.Next) → b.outcome (build_of old.build) (m.step mode (kinds_of old.kinds.items) t k) ≡ turn_gives r new k
+pub record IsTurn (mode : m.Mode) (old : State) (t : m.Token) (r : Turn)
+    (new : State) : Type 0 where
+  pub gives : (k : m.Next) → turn_wants mode old t k ≡ turn_gives r new k
   pub fits : BuildFits (build_of old.build) → TurnFits r new
   pub takes : Takes t r
 
@@ -40,7 +50,8 @@ abbrev pub IsTurnAt : State → m.Token × List ℕ → Turn → List ℕ → St
 IsTurnAt old p r behind new = IsTurn (mode_of old.mode) old p.0 r new × (behind ≡ p.1)
 
 -- the event brings the one state to the other, with this mode and these kinds
-pub record Steps (old : State) (e : m.Event) (m2 : m.Mode) (ks2 : m.Kinds) (new : State) : Type 0 where
+pub record Steps (old : State) (e : m.Event) (m2 : m.Mode) (ks2 : m.Kinds)
+    (new : State) : Type 0 where
   pub build : build_of new.build ≡ b.perform (build_of old.build) e
   pub kinds : kinds_of new.kinds.items ≡ ks2
   pub mode : mode_of new.mode ≡ m2
@@ -55,3 +66,34 @@ pub record IsAdded (old : State) (y : Datum) (new : State) : Type 0 where
 abbrev pub closing : Bool → m.Token
 closing true = m.close_array
 closing false = m.close_object
+
+-- an array or an object opens
+abbrev pub Opens : Bool → State → State → Type 0
+Opens true old new =
+    Steps old m.opens_array (m.value true) (true ∷ kinds_of old.kinds.items) new
+Opens false old new =
+    Steps old m.opens_object (m.key true) (false ∷ kinds_of old.kinds.items) new
+
+-- a number that is out of bounds is passed, whatever it is
+abbrev pub PassesNumber : State → State → Type 0
+PassesNumber old new =
+    (n : Numeral) → IsNumberOut (m.numeral n)
+    → Steps old (m.a_number n) m.after (kinds_of old.kinds.items) new
+
+-- the turn of the code's token in this mode
+abbrev pub TurnsBy : m.Mode → State → Token → Result Turn NoMemory → State → Type 0
+TurnsBy mode old token r new =
+    (t : m.Token) → StandsFor token t → IfOk r (λ x. IsTurn mode old t x new)
+
+-- a turn and the bytes behind its token, or no memory
+abbrev pub TurnAndRest : Type 0
+TurnAndRest = Result (Turn × Bor (List ℕ)) NoMemory
+
+-- the turn of a part, and what is behind it
+abbrev pub GivesTurn : State → m.Token × List ℕ → TurnAndRest → State → Type 0
+GivesTurn old p r new = IfOk r (λ x. IsTurnAt old p x.0 x.1.now new)
+
+-- the same of a part that the code's token stands for
+abbrev pub TurnsPart : State → Token → List ℕ → TurnAndRest → State → Type 0
+TurnsPart old token behind r new =
+    (p : m.Token × List ℕ) → IsPart token behind p → GivesTurn old p r new

@@ -1,12 +1,10 @@
 -- What the code's state stands for.
-use Rattle.std.specs.Prelude.{ℕ, Bool, true, false, List, [], ◌∷◌, ◌++◌, map, reverse, Some, None}
+use Rattle.std.specs.Prelude.{◌≡◌, ℕ, Bool, true, false, List, [], ◌∷◌, ◌++◌, map, reverse, Some, None}
 use Rattle.item_tree.specs.Datum.{Datum, array_of_list, object_of_pairs}
-use Rattle.item_tree.specs.Item.{datum, datums, pair_datums}
+use Rattle.item_tree.specs.Item.{datum, datums}
 use Rattle.json_text.specs.Meaning as j
 use Rattle.json_text.specs.Machine as m
 use Rattle.json_text.specs.Build as b
-use Rattle.item_reader.specs.declared.members.Members.{Members}
-use Rattle.item_reader.specs.declared.members.Members.TheVariants.{Few, Many}
 use Rattle.item_reader.specs.declared.frame.Frame.{Frame}
 use Rattle.item_reader.specs.declared.frame.Frame.TheVariants.{Array, Object}
 use Rattle.item_reader.specs.declared.build.Trouble.{Trouble}
@@ -17,13 +15,9 @@ use Rattle.item_reader.specs.declared.build.Build.{Build}
 use Rattle.item_reader.specs.declared.turn.Mode.{Mode}
 use Rattle.item_reader.specs.declared.turn.Mode.TheVariants.{Value, Key, Name, After}
 
-abbrev pub members_of : Members → List (List ℕ × Datum)
-members_of (Few v) = pair_datums v.items
-members_of (Many m) = pair_datums m.value.entries
-
 abbrev pub frame_of : Frame → b.Frame
 frame_of (Array v) = b.open_array (datums v.items)
-frame_of (Object ms k) = b.open_object (members_of ms) k
+frame_of (Object ps k) = b.open_object ps k
 
 -- the innermost stands last
 unfoldable pub frames_of : List Frame → List b.Frame
@@ -46,6 +40,9 @@ progress_of (Troubled t) fs = b.troubled (trouble_of t)
 abbrev pub build_of : Build → b.Build
 build_of x = progress_of x.progress (frames_of x.frames.items)
 
+abbrev pub frames_in : Build → List b.Frame
+frames_in x = frames_of x.frames.items
+
 abbrev pub mode_of : Mode → m.Mode
 mode_of (Value f) = m.value f
 mode_of (Key f) = m.key f
@@ -61,6 +58,10 @@ abbrev pub on_frames : (List b.Frame → b.Build) → b.Build → b.Build
 on_frames f (b.building fs) = f fs
 on_frames f (b.done x) = b.done x
 on_frames f (b.troubled t) = b.troubled t
+
+-- the code's state before and behind an event
+abbrev pub Does : (List b.Frame → b.Build) → Build → Build → Type 0
+Does f old new = build_of new ≡ on_frames f (build_of old)
 
 -- the value of a container that closes
 abbrev pub value_of : b.Frame → Datum
@@ -81,3 +82,7 @@ key_inside k (b.open_object ps old) = b.open_object ps (Some k)
 abbrev pub with_first : (b.Frame → b.Frame) → List b.Frame → List b.Frame
 with_first f [] = []
 with_first f (x ∷ xs) = f x ∷ xs
+
+-- the innermost of the code's frames changes
+abbrev pub OnLast : (b.Frame → b.Frame) → List Frame → List Frame → Type 0
+OnLast f old new = frames_of new ≡ with_first f (frames_of old)

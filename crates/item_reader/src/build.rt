@@ -3,10 +3,10 @@
 ghost use Rattle.std.specs.Prelude.{◌≡◌, true, OnOk};
 ghost use Rattle.item_tree.specs.Item.{datum};
 ghost use Rattle.json_text.specs.Build.{start, push_frame as push_frame_of, add as add_of, close as close_of, set_key as set_key_of, troubled};
-ghost use Rattle.item_reader.specs.View.{is_open as is_open_of, on_frames, frame_of, frames_of, build_of, trouble_of};
-ghost use Rattle.json_text.specs.Fits.{BuildFits, FramesFit};
+ghost use Rattle.item_reader.specs.View.{is_open as is_open_of, Does, frame_of, frames_in, build_of, trouble_of};
+ghost use Rattle.json_text.specs.Fits.{BuildFits};
 
-use crate::frame::{Frame, add_in_place, push_frame, set_key_in_place};
+use crate::frame::{Frame, add_in_place, set_key_in_place};
 use item_tree::{Item, NoMemory, Str};
 use std::alloc::Global;
 
@@ -61,13 +61,13 @@ impl Build {
     }
 
     pub fn open(&mut self, frame: Frame) -> Result<(), NoMemory>
-        ensures { OnOk result (build_of self.new ≡ on_frames (push_frame_of (frame_of frame)) (build_of self.old)) }
+        ensures { OnOk result (Does (push_frame_of (frame_of frame)) self.old self.new) }
     {
         if !self.is_open() {
             return Ok(());
         }
         if self.frames.len() < MOST_OPEN {
-            push_frame(&mut self.frames, frame)?;
+            self.frames.push(frame)?;
         } else {
             self.progress = Progress::Troubled(Trouble::TooDeep);
         }
@@ -76,9 +76,8 @@ impl Build {
 
     // A value that is complete goes into the innermost container, or it is the whole.
     fn add_open(&mut self, alloc: Global, item: Item) -> Result<(), NoMemory>
-        requires open { is_open_of self.old.progress ≡ true }
-        requires fits { FramesFit (frames_of self.old.frames.items) }
-        ensures { OnOk result (build_of self.new ≡ add_of (datum item) (frames_of self.old.frames.items)) }
+        requires { is_open_of self.old.progress ≡ true }
+        ensures { OnOk result (build_of self.new ≡ add_of (datum item) (frames_in self.old)) }
     {
         if self.frames.is_empty() {
             self.progress = Progress::Done(item);
@@ -89,8 +88,7 @@ impl Build {
     }
 
     pub fn add(&mut self, alloc: Global, item: Item) -> Result<(), NoMemory>
-        requires { BuildFits (build_of self.old) }
-        ensures { OnOk result (build_of self.new ≡ on_frames (add_of (datum item)) (build_of self.old)) }
+        ensures { OnOk result (Does (add_of (datum item)) self.old self.new) }
     {
         if !self.is_open() {
             return Ok(());
@@ -101,7 +99,7 @@ impl Build {
 
     pub fn close(&mut self, alloc: Global) -> Result<(), NoMemory>
         requires { BuildFits (build_of self.old) }
-        ensures { OnOk result (build_of self.new ≡ on_frames close_of (build_of self.old)) }
+        ensures { OnOk result (Does close_of self.old self.new) }
     {
         if !self.is_open() {
             return Ok(());
@@ -117,7 +115,7 @@ impl Build {
     }
 
     pub fn set_key(&mut self, text: Str)
-        ensures { build_of self.new ≡ on_frames (set_key_of text) (build_of self.old) }
+        ensures { Does (set_key_of text) self.old self.new }
     {
         if !self.is_open() {
             return;
@@ -129,7 +127,7 @@ impl Build {
     }
 
     pub fn fail(&mut self, trouble: Trouble)
-        ensures { build_of self.new ≡ on_frames (λ fs. troubled (trouble_of trouble)) (build_of self.old) }
+        ensures { Does (λ fs. troubled (trouble_of trouble)) self.old self.new }
     {
         if self.is_open() {
             self.progress = Progress::Troubled(trouble);

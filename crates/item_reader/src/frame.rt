@@ -1,28 +1,18 @@
 //! The arrays and objects that are open.
 
-ghost use Rattle.std.specs.Prelude.{◌≡◌, ◌<◌, ◌+◌, ◌++◌, ◌∷◌, [], ℕ, IfOk, OnOk, length};
-ghost use Rattle.item_tree.specs.Datum.{KeysDiffer, array_of_list, object_of_pairs};
-ghost use Rattle.item_tree.specs.Item.{datum, datums, pair_datums};
-ghost use Rattle.item_reader.specs.View.{value_of, frame_of, frames_of, add_inside, key_inside, with_first};
-ghost use Rattle.json_text.specs.Fits.{AllFit, PairsFit, FrameFits, FramesFit};
+ghost use Rattle.std.specs.Prelude.{◌≡◌, ◌<◌, ◌+◌, ℕ, IfOk, OnOk, length};
+ghost use Rattle.item_tree.specs.Datum.{array_of_list, object_of_pairs};
+ghost use Rattle.item_tree.specs.Item.{datum, datums};
+ghost use Rattle.item_reader.specs.View.{value_of, frame_of, add_inside, key_inside, OnLast};
+ghost use Rattle.json_text.specs.Fits.{AllFit, PairsFit, FrameFits};
 
-use crate::members::Members;
-use item_tree::{Item, MakeFault, NoMemory, Str, array_of, object_of_distinct};
+use item_tree::{Item, MakeFault, NoMemory, PairList, Str, array_of, object_of_distinct};
 use std::alloc::Global;
 
 #[derive(Drop)]
 pub enum Frame {
     Array(Vec<Item>),
-    Object(Members, Option<Str>),
-}
-
-fn push_item(items: &mut Vec<Item>, item: Item) -> Result<(), NoMemory>
-    ensures { OnOk result (items.new.items ≡ items.old.items ++ item ∷ []) }
-{
-    match items.push(item) {
-        Ok(()) => Ok(()),
-        Err(_) => Err(NoMemory),
-    }
+    Object(PairList, Option<Str>),
 }
 
 fn array_item(alloc: Global, items: Vec<Item>) -> Result<Item, NoMemory>
@@ -37,10 +27,9 @@ fn array_item(alloc: Global, items: Vec<Item>) -> Result<Item, NoMemory>
     }
 }
 
-fn object_item(alloc: Global, pairs: Vec<(Str, Item)>) -> Result<Item, NoMemory>
-    requires fits { (n : ℕ) × PairsFit (n + 1) (pair_datums pairs.items) }
-    requires differ { KeysDiffer (pair_datums pairs.items) }
-    ensures { IfOk result (λ x. datum x ≡ object_of_pairs (pair_datums pairs.items)) }
+fn object_item(alloc: Global, pairs: PairList) -> Result<Item, NoMemory>
+    requires { (n : ℕ) × PairsFit (n + 1) pairs }
+    ensures { IfOk result (λ x. datum x ≡ object_of_pairs pairs) }
 {
     match object_of_distinct(alloc, pairs) {
         Ok(item) => Ok(item),
@@ -58,18 +47,17 @@ impl Frame {
     {
         match self {
             Frame::Array(items) => array_item(alloc, items),
-            Frame::Object(members, _) => object_item(alloc, members.into_pairs(alloc)?),
+            Frame::Object(pairs, _) => object_item(alloc, pairs),
         }
     }
 
     fn add(&mut self, alloc: Global, item: Item) -> Result<(), NoMemory>
-        requires { (n : ℕ) × FrameFits n (frame_of self.old) }
         ensures { OnOk result (frame_of self.new ≡ add_inside (datum item) (frame_of self.old)) }
     {
         match self {
-            Frame::Array(items) => push_item(items, item),
-            Frame::Object(members, key) => match key.take() {
-                Some(key) => members.put(alloc, key, item),
+            Frame::Array(items) => Ok(items.push(item)?),
+            Frame::Object(pairs, key) => match key.take() {
+                Some(key) => pairs.put(alloc, key, item),
                 None => Ok(()),
             },
         }
@@ -87,9 +75,8 @@ impl Frame {
 
 /// One more value in the innermost container.
 pub fn add_in_place(alloc: Global, frames: &mut Vec<Frame>, item: Item) -> Result<(), NoMemory>
-    requires some { 0 < length frames.old.items }
-    requires fits { FramesFit (frames_of frames.old.items) }
-    ensures { OnOk result (frames_of frames.new.items ≡ with_first (add_inside (datum item)) (frames_of frames.old.items)) }
+    requires { 0 < length frames.old.items }
+    ensures { OnOk result (OnLast (add_inside (datum item)) frames.old.items frames.new.items) }
 {
     let last = frames.len() - 1;
     let frame = &mut frames[last];
@@ -100,18 +87,9 @@ pub fn add_in_place(alloc: Global, frames: &mut Vec<Frame>, item: Item) -> Resul
 /// The key of the value that comes next in the innermost container.
 pub fn set_key_in_place(frames: &mut Vec<Frame>, text: Str)
     requires { 0 < length frames.old.items }
-    ensures { frames_of frames.new.items ≡ with_first (key_inside text) (frames_of frames.old.items) }
+    ensures { OnLast (key_inside text) frames.old.items frames.new.items }
 {
     let last = frames.len() - 1;
     let frame = &mut frames[last];
     frame.set_key(text);
-}
-
-pub fn push_frame(frames: &mut Vec<Frame>, frame: Frame) -> Result<(), NoMemory>
-    ensures { OnOk result (frames.new.items ≡ frames.old.items ++ frame ∷ []) }
-{
-    match frames.push(frame) {
-        Ok(()) => Ok(()),
-        Err(_) => Err(NoMemory),
-    }
 }

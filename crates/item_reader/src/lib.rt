@@ -5,7 +5,6 @@ mod build;
 mod fault;
 mod frame;
 pub mod laws;
-mod members;
 mod number;
 mod read;
 mod string;

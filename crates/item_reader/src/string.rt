@@ -1,12 +1,11 @@
 //! Strings, taken from the front of a text.
 
-ghost use Rattle.std.specs.Prelude.{◌≡◌, ◌<◌, ◌≤◌, ◌++◌, ◌∷◌, [], ℕ, slice_index, IfOk, IfSome, OnOk, MatchOption, option_map, None, Some, length, suc};
+ghost use Rattle.std.specs.Prelude.{◌≡◌, ◌<◌, ◌≤◌, ℕ, slice_index, IfOk, IfSome, MatchOption, option_map, length};
 ghost use Rattle.std.specs.List.{prefix_len};
 ghost use Rattle.std.specs.Str.{IsUtf8, chars};
 ghost use Rattle.item_tree.specs.JsonString.{is_raw as is_raw_of};
-ghost use Rattle.json_text.specs.Scan.{string_at, after_bytes};
-ghost use Rattle.json_text.specs.Machine.{string_token as string_token_of};
-ghost use Rattle.json_text.specs.Machine as m;
+ghost use Rattle.json_text.specs.Scan.{string_at};
+ghost use Rattle.item_reader.specs.Strings.{IsText, FindsText, IsPastEscape, IsShorter};
 
 use crate::token::uncons;
 use item_tree::{NoMemory, Str};
@@ -41,27 +40,16 @@ fn raw_len(line: &[u8]) -> usize
     len
 }
 
-fn append(bytes: &mut Vec<u8>, more: &[u8]) -> Result<(), NoMemory>
-    ensures { OnOk result (bytes.new.items ≡ bytes.old.items ++ more.now) }
-{
-    match bytes.extend_from_slice(more) {
-        Ok(()) => Ok(()),
-        Err(_) => Err(NoMemory),
-    }
-}
-
 // Appends what an escape spells, whose backslash is before the line, and gives what is behind it.
 fn push_escape<'a>(bytes: &mut Vec<u8>, line: &'a [u8]) -> Result<Option<&'a [u8]>, NoMemory>
-    ensures value { IfOk result (λ o. MatchOption o (string_at (92 ∷ line.now) ≡ None) (λ left. after_bytes bytes.old.items (string_at (92 ∷ line.now)) ≡ after_bytes bytes.new.items (string_at left.now))) }
-    ensures shorter { IfOk result (λ o. IfSome o (λ left. length left.now < suc (length line.now))) }
+    ensures value { IfOk result (IsPastEscape line.now bytes.old.items bytes.new.items) }
+    ensures shorter { IfOk result (IsShorter line.now) }
 {
     let Some((spelled, rest)) = escape_at(line) else {
         return Ok(None);
     };
-    match push_spelled(bytes, spelled) {
-        Ok(()) => Ok(Some(rest)),
-        Err(_) => Err(NoMemory),
-    }
+    push_spelled(bytes, spelled)?;
+    Ok(Some(rest))
 }
 
 // The content up to the closing quote, and what is behind it.
@@ -72,7 +60,7 @@ fn string(alloc: Global, line: &[u8]) -> Result<Option<(Vec<u8>, &[u8])>, NoMemo
     let mut left = line;
     'stretches: loop {
         let (raw, behind) = left.split_at(raw_len(left));
-        append(&mut bytes, raw)?;
+        bytes.extend_from_slice(raw)?;
         let Some((mark, rest)) = uncons(behind) else {
             return Ok(None);
         };
@@ -107,7 +95,7 @@ fn text_of(bytes: &[u8], most: u8) -> Option<&str>
 /// The text of a string without escapes whose opening quote is before the line, and what is behind
 /// it.
 pub fn plain_text(line: &[u8]) -> Option<(&str, &[u8])>
-    ensures { IfSome result (λ p. string_token_of (string_at line.now) ≡ (m.characters (chars p.0.now), p.1.now)) }
+    ensures { IfSome result (λ p. IsText line.now (chars p.0.now) p.1.now) }
 {
     let (len, most) = raw_front(line);
     let (raw, behind) = line.split_at(len);
@@ -124,7 +112,7 @@ pub fn plain_text(line: &[u8]) -> Option<(&str, &[u8])>
 /// The text of a string whose opening quote is before the line, and what is behind it, or nothing
 /// where no string in UTF-8 is there.
 pub fn escaped_text(alloc: Global, line: &[u8]) -> Result<Option<(Str, &[u8])>, NoMemory>
-    ensures { IfOk result (λ o. MatchOption o (string_token_of (string_at line.now) ≡ (m.bad, [])) (λ p. string_token_of (string_at line.now) ≡ (m.characters p.0, p.1.now))) }
+    ensures { IfOk result (FindsText line.now) }
 {
     let Some((bytes, rest)) = string(alloc, line)? else {
         return Ok(None);

@@ -312,25 +312,42 @@ fn a_repeated_key_keeps_its_place(rt: HostRuntime) -> Result<(), Fail> {
     Ok(())
 }
 
-// So many keys are found by a hash.
+// Few keys are compared with each other, and many have an index: at each number the first key and
+// the last one come again, and each keeps its place and takes the new value.
 #[test]
-fn reads_many_keys(rt: HostRuntime) -> Result<(), Fail> {
+fn repeated_keys_are_found(rt: HostRuntime) -> Result<(), Fail> {
     let alloc = rt.alloc();
-    let mut line = String::from_str(alloc, "{")?;
-    for i in 0..1000u32 {
-        line.push_str(format!(in alloc; "\"k{i}\":{i},")?.as_str())?;
-    }
-    line.push_str("\"k7\":null,\"k999\":true}")?;
-    let read = read_item(alloc, line.as_bytes());
-    assert_eq!(rt; answer_of(&read), Answer::Object(1000));
-    if let Ok(Some(Item::Object(pairs))) = &read {
-        for (i, pair) in pairs.as_slice().iter().enumerate() {
-            let key = format!(in alloc; "k{i}")?;
-            assert_eq!(rt; pair.0.as_str(), key.as_str());
-            let changed = matches!(&pair.1, Item::Null | Item::Bool(true));
-            assert_eq!(rt; changed, i == 7 || i == 999, "at {i}");
+    for (count, last) in [(2u32, 1u32), (64, 63), (65, 64), (1000, 999)] {
+        let mut line = String::from_str(alloc, "{")?;
+        for i in 0..count {
+            line.push_str(format!(in alloc; "\"k{i}\":{i},")?.as_str())?;
+        }
+        line.push_str(format!(in alloc; "\"k0\":null,\"k{last}\":true}}")?.as_str())?;
+        let read = read_item(alloc, line.as_bytes());
+        assert_eq!(rt; answer_of(&read), Answer::Object(count as usize));
+        if let Ok(Some(Item::Object(pairs))) = &read {
+            for (i, pair) in pairs.as_slice().iter().enumerate() {
+                let key = format!(in alloc; "k{i}")?;
+                assert_eq!(rt; pair.0.as_str(), key.as_str());
+                let changed = matches!(&pair.1, Item::Null | Item::Bool(true));
+                assert_eq!(rt; changed, i == 0 || i == last as usize, "at {i} of {count}");
+            }
         }
     }
+    Ok(())
+}
+
+// These keys have one hash under the fixed seed of std's tables.
+#[test]
+fn reads_chosen_keys(rt: HostRuntime) -> Result<(), Fail> {
+    let alloc = rt.alloc();
+    let mut line = String::from_str(alloc, "{")?;
+    for i in 10_000_000..10_020_000u32 {
+        line.push_str(format!(in alloc; "\"00000000000015255%9I:_r4{i}\":{i},")?.as_str())?;
+    }
+    line.push_str("\"00000000000015255%9I:_r410000007\":null}")?;
+    let read = read_item(alloc, line.as_bytes());
+    assert_eq!(rt; answer_of(&read), Answer::Object(20_000));
     Ok(())
 }
 

@@ -1,10 +1,10 @@
 //! Tokens, all but strings.
 
-ghost use Rattle.std.specs.Prelude.{◌≡◌, ◌≢◌, ◌∷◌, [], true, false, option_map};
+ghost use Rattle.std.specs.Prelude.{◌≡◌, ◌≢◌, ◌∷◌, true, false, option_map};
 ghost use Rattle.json_text.specs.Json.{is_space};
 ghost use Rattle.json_text.specs.Machine.{token_at, token_from as token_from_of, word_at};
 ghost use Rattle.json_text.specs.Machine as m;
-ghost use Rattle.item_reader.specs.Tokens.{IsPart, is_mark, begins, uncons as uncons_of};
+ghost use Rattle.item_reader.specs.Tokens.{IsPart, is_mark, begins, behind_n, behind_t, behind_f, uncons as uncons_of};
 
 use crate::number::number_token;
 use item_tree::Item;
@@ -72,7 +72,7 @@ pub(crate) fn skip_spaces(line: &[u8]) -> &[u8]
 }
 
 fn null_token(line: &[u8]) -> (Token, &[u8])
-    ensures { IsPart result.0 result.1.now (word_at (117 ∷ 108 ∷ 108 ∷ []) m.null_word line.now) }
+    ensures { IsPart result.0 result.1.now (word_at behind_n m.null_word line.now) }
 {
     if line.starts_with(b"ull") {
         (Token::Atom(Item::Null), &line[3..])
@@ -82,7 +82,7 @@ fn null_token(line: &[u8]) -> (Token, &[u8])
 }
 
 fn true_token(line: &[u8]) -> (Token, &[u8])
-    ensures { IsPart result.0 result.1.now (word_at (114 ∷ 117 ∷ 101 ∷ []) (m.boolean_word true) line.now) }
+    ensures { IsPart result.0 result.1.now (word_at behind_t (m.boolean_word true) line.now) }
 {
     if line.starts_with(b"rue") {
         (Token::Atom(Item::Bool(true)), &line[3..])
@@ -92,7 +92,7 @@ fn true_token(line: &[u8]) -> (Token, &[u8])
 }
 
 fn false_token(line: &[u8]) -> (Token, &[u8])
-    ensures { IsPart result.0 result.1.now (word_at (97 ∷ 108 ∷ 115 ∷ 101 ∷ []) (m.boolean_word false) line.now) }
+    ensures { IsPart result.0 result.1.now (word_at behind_f (m.boolean_word false) line.now) }
 {
     if line.starts_with(b"alse") {
         (Token::Atom(Item::Bool(false)), &line[4..])

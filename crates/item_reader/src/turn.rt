@@ -1,23 +1,21 @@
 //! One turn of the machine.
 
 ghost use Rattle.std.specs.Prelude.{◌≡◌, ◌∷◌, [], ℕ, List, true, false, IfOk, OnOk};
-ghost use Rattle.num_fixed.specs.Numeral.{Numeral};
 ghost use Rattle.item_tree.specs.Item.{datum};
 ghost use Rattle.json_text.specs.Machine.{token_at, token_from, string_token};
 ghost use Rattle.json_text.specs.Scan.{string_at};
 ghost use Rattle.json_text.specs.Machine as m;
 ghost use Rattle.json_text.specs.Build.{start};
-ghost use Rattle.item_reader.specs.Tokens.{StandsFor, IsNumberOut, IsPart};
+ghost use Rattle.item_reader.specs.Tokens.{StandsFor};
 ghost use Rattle.item_reader.specs.View.{build_of, mode_of, kinds_of};
 ghost use Rattle.json_text.specs.Fits.{BuildFits};
-ghost use Rattle.item_reader.specs.Turns.{IsTurn, IsTurnAt, IsAdded, Steps, closing};
+ghost use Rattle.item_reader.specs.Turns.{IsTurn, IsAdded, Steps, Opens, PassesNumber, TurnsBy, TurnsPart, GivesTurn, closing};
 
 use crate::build::{Build, Trouble};
 use crate::frame::Frame;
-use crate::members::Members;
 use crate::string::{escaped_text, plain_text};
 use crate::token::{Token, skip_spaces, uncons, value_from};
-use item_tree::{Item, NoMemory, Str};
+use item_tree::{Item, NoMemory, PairList, Str};
 use std::alloc::Global;
 
 #[derive(Clone, Copy, Debug)]
@@ -43,15 +41,6 @@ pub enum Turn {
     NotJson,
 }
 
-fn push_kind(kinds: &mut Vec<bool>, is_array: bool) -> Result<(), NoMemory>
-    ensures { OnOk result (kinds_of kinds.new.items ≡ is_array ∷ kinds_of kinds.old.items) }
-{
-    match kinds.push(is_array) {
-        Ok(()) => Ok(()),
-        Err(_) => Err(NoMemory),
-    }
-}
-
 impl State {
     pub fn new(alloc: Global) -> State
         ensures build { build_of result.build ≡ start }
@@ -65,20 +54,22 @@ impl State {
         }
     }
 
+    #[tactic(auto, using(crate::proofs::Turning::kind_pushed))]
     fn open_array(&mut self, alloc: Global) -> Result<(), NoMemory>
-        ensures { OnOk result (Steps self.old m.opens_array (m.value true) (true ∷ kinds_of self.old.kinds.items) self.new) }
+        ensures { OnOk result (Opens true self.old self.new) }
     {
         self.build.open(Frame::Array(Vec::new(alloc)))?;
-        push_kind(&mut self.kinds, true)?;
+        self.kinds.push(true)?;
         self.mode = Mode::Value(true);
         Ok(())
     }
 
+    #[tactic(auto, using(crate::proofs::Turning::kind_pushed))]
     fn open_object(&mut self, alloc: Global) -> Result<(), NoMemory>
-        ensures { OnOk result (Steps self.old m.opens_object (m.key true) (false ∷ kinds_of self.old.kinds.items) self.new) }
+        ensures { OnOk result (Opens false self.old self.new) }
     {
-        self.build.open(Frame::Object(Members::new(alloc), None))?;
-        push_kind(&mut self.kinds, false)?;
+        self.build.open(Frame::Object(PairList::new(alloc), None))?;
+        self.kinds.push(false)?;
         self.mode = Mode::Key(true);
         Ok(())
     }
@@ -102,7 +93,6 @@ impl State {
     }
 
     fn add(&mut self, alloc: Global, item: Item) -> Result<(), NoMemory>
-        requires { BuildFits (build_of self.old.build) }
         ensures { OnOk result (IsAdded self.old (datum item) self.new) }
     {
         self.build.add(alloc, item)?;
@@ -111,7 +101,7 @@ impl State {
     }
 
     fn number_out(&mut self)
-        ensures { (n : Numeral) → IsNumberOut (m.numeral n) → Steps self.old (m.a_number n) m.after (kinds_of self.old.kinds.items) self.new }
+        ensures { PassesNumber self.old self.new }
     {
         self.build.fail(Trouble::NumberOut);
         self.mode = Mode::After;
@@ -127,7 +117,7 @@ impl State {
     #[inline(always)]
     fn value_turn(&mut self, alloc: Global, may_end: bool, token: Token) -> Result<Turn, NoMemory>
         requires { BuildFits (build_of self.old.build) }
-        ensures { (t : m.Token) → StandsFor token t → IfOk result (λ r. IsTurn (m.value may_end) self.old t r self.new) }
+        ensures { TurnsBy (m.value may_end) self.old token result self.new }
     {
         match token {
             Token::OpenArray => self.open_array(alloc)?,
@@ -150,7 +140,7 @@ impl State {
     #[inline(always)]
     fn key_turn(&mut self, alloc: Global, may_end: bool, token: Token) -> Result<Turn, NoMemory>
         requires { BuildFits (build_of self.old.build) }
-        ensures { (t : m.Token) → StandsFor token t → IfOk result (λ r. IsTurn (m.key may_end) self.old t r self.new) }
+        ensures { TurnsBy (m.key may_end) self.old token result self.new }
     {
         match token {
             Token::CloseObject => {
@@ -216,7 +206,7 @@ impl State {
     #[inline(always)]
     fn after_turn(&mut self, alloc: Global, token: &Token) -> Result<Turn, NoMemory>
         requires { BuildFits (build_of self.old.build) }
-        ensures { (t : m.Token) → StandsFor token.now t → IfOk result (λ r. IsTurn m.after self.old t r self.new) }
+        ensures { TurnsBy m.after self.old token.now result self.new }
     {
         match token {
             Token::Comma => Ok(self.go_on()),
@@ -231,7 +221,7 @@ impl State {
     #[inline(always)]
     fn take(&mut self, alloc: Global, token: Token) -> Result<Turn, NoMemory>
         requires { BuildFits (build_of self.old.build) }
-        ensures { (t : m.Token) → StandsFor token t → IfOk result (λ r. IsTurn (mode_of self.old.mode) self.old t r self.new) }
+        ensures { TurnsBy (mode_of self.old.mode) self.old token result self.new }
     {
         match self.mode {
             Mode::Value(may_end) => self.value_turn(alloc, may_end, token),
@@ -241,7 +231,8 @@ impl State {
         }
     }
 
-    // The turn of this token, and what is behind it. A copy of it for each token knows the token.
+    // The turn of this token, and what is behind it. It is inlined at each mark, where the token is
+    // known, so that nothing is left to choose.
     #[inline(always)]
     fn take_part<'a>(
         &mut self,
@@ -250,7 +241,7 @@ impl State {
         behind: &'a [u8],
     ) -> Result<(Turn, &'a [u8]), NoMemory>
         requires { BuildFits (build_of self.old.build) }
-        ensures { (p : m.Token × List ℕ) → IsPart token behind.now p → IfOk result (λ r. IsTurnAt self.old p r.0 r.1.now self.new) }
+        ensures { TurnsPart self.old token behind.now result self.new }
     {
         let turn = self.take(alloc, token)?;
         Ok((turn, behind))
@@ -264,8 +255,7 @@ impl State {
         text: Str,
         behind: &'a [u8],
     ) -> Result<(Turn, &'a [u8]), NoMemory>
-        requires { BuildFits (build_of self.old.build) }
-        ensures { IfOk result (λ r. IsTurnAt self.old (m.characters text, behind.now) r.0 r.1.now self.new) }
+        ensures { GivesTurn self.old (m.characters text, behind.now) result self.new }
     {
         match self.mode {
             Mode::Value(_) => {
@@ -286,8 +276,7 @@ impl State {
         alloc: Global,
         line: &'a [u8],
     ) -> Result<(Turn, &'a [u8]), NoMemory>
-        requires { BuildFits (build_of self.old.build) }
-        ensures { IfOk result (λ r. IsTurnAt self.old (string_token (string_at line.now)) r.0 r.1.now self.new) }
+        ensures { GivesTurn self.old (string_token (string_at line.now)) result self.new }
     {
         if let Some((text, behind)) = plain_text(line) {
             return self.take_text(alloc, Str::of(alloc, text)?, behind);
@@ -308,7 +297,7 @@ impl State {
     ) -> Result<(Turn, &'a [u8]), NoMemory>
         requires line { line.now ≡ b ∷ rest.now }
         requires fits { BuildFits (build_of self.old.build) }
-        ensures { IfOk result (λ r. IsTurnAt self.old (token_from b rest.now) r.0 r.1.now self.new) }
+        ensures { GivesTurn self.old (token_from b rest.now) result self.new }
     {
         if b == b'[' {
             return self.take_part(alloc, Token::OpenArray, rest);
@@ -342,7 +331,7 @@ impl State {
         line: &'a [u8],
     ) -> Result<(Turn, &'a [u8]), NoMemory>
         requires { BuildFits (build_of self.old.build) }
-        ensures { IfOk result (λ r. IsTurnAt self.old (token_at line.now) r.0 r.1.now self.new) }
+        ensures { GivesTurn self.old (token_at line.now) result self.new }
     {
         let left = skip_spaces(line);
         match uncons(left) {

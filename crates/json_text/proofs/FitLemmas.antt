@@ -8,6 +8,7 @@ use Rattle.num_fixed.specs.declared.number.Number.{Number}
 use Rattle.num_fixed.specs.declared.number.Number.TheVariants.{Int, Dec}
 use Rattle.item_tree.specs.Datum.{Datum, null, boolean, text, array_of_list, object_of_pairs, depth, data_depth, members_depth, values, members, NoneHas, KeysDiffer}
 use Rattle.item_tree.specs.Made.{HasDeep, HasDeepPair}
+use Rattle.item_tree.proofs.Puts.{keys_put}
 use Rattle.json_text.specs.Meaning.{put, put_all, number_datum}
 use Rattle.json_text.specs.Machine.{Event, opens_array, opens_object, closes, keyed, a_null, a_boolean, a_number, a_string}
 use Rattle.json_text.specs.Build.{Frame, open_array, open_object, Build, building, done, troubled, add, settle, close, set_key, push_frame, perform, number_outcome}
@@ -29,15 +30,6 @@ all_push around (y ∷ xs) x h a = (a.0, all_push around xs x h a.1)
 pub pairs_put : (around : ℕ) (k : List ℕ) (x : Datum) (ps : List (List ℕ × Datum)) → depth x + around ≤ 128 → PairsFit around ps → PairsFit around (put k x ps)
 pairs_put around k x [] h a = (h, tt)
 pairs_put around k x (p ∷ ps) h a = cond_both (bytes_eq k p.0) _ _ (PairsFit around) (λ _. (h, a.1)) (λ _. (a.0, pairs_put around k x ps h a.1))
-
-none_put : (j k : List ℕ) (x : Datum) (ps : List (List ℕ × Datum)) → j ≢ k → NoneHas j ps → NoneHas j (put k x ps)
-none_put j k x [] h a = (h, tt)
-none_put j k x (p ∷ ps) h a = cond_both (bytes_eq k p.0) _ _ (NoneHas j) (λ _. a) (λ _. (a.0, none_put j k x ps h a.1))
-
-pub keys_put : (k : List ℕ) (x : Datum) (ps : List (List ℕ × Datum)) → KeysDiffer ps → KeysDiffer (put k x ps)
-keys_put k x [] a = (tt, tt)
-keys_put k x (p ∷ ps) a =
-    cond_both (bytes_eq k p.0) _ _ KeysDiffer (λ _. a) (λ e. (none_put p.0 k x ps (λ q. both_ways _ e ((bytes_eq-Decides k p.0).1 (sym q))) a.0, keys_put k x ps a.1))
 
 pub keys_put_all : (ps more : List (List ℕ × Datum)) → KeysDiffer ps → KeysDiffer (put_all ps more)
 keys_put_all ps [] h = h

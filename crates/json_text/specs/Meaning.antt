@@ -1,12 +1,12 @@
 -- What a raw value gives: its item, or its first trouble in text order.
 use Rattle.std.specs.Prelude.{◌≡◌, ℕ, suc, nat_lt, List, [], ◌∷◌, Result, Ok, Err, if◌then◌else◌}
 use Rattle.std.specs.Result.{result_map_both}
-use Rattle.std.specs.Str.{bytes_eq}
 use Rattle.num_fixed.specs.Bounds.{NumberInBounds}
 use Rattle.num_fixed.specs.Numeral.{Numeral, Says}
 use Rattle.num_fixed.specs.declared.number.Number.{Number}
 use Rattle.num_fixed.specs.declared.number.Number.TheVariants.{Int, Dec}
 use Rattle.item_tree.specs.Datum.{Datum, null, boolean, integer, decimal, text, array_of_list, object_of_pairs}
+pub use Rattle.item_tree.specs.Lookup.{put}
 use Rattle.json_text.specs.Raw.{Raw, raw_null, raw_boolean, raw_number, raw_string, raw_array, raw_object, Raws, no_raws, raw_value, Fields, no_fields, field}
 
 -- a number out of its bounds, or a bracket that opens inside 128 open ones
@@ -26,11 +26,6 @@ together f (Err t) r = Err t
 -- a bracket that opens inside this many open ones, and what is inside it
 abbrev pub bracketed : {A : Type 0} → ℕ → (A → Datum) → Outcome A → Outcome Datum
 bracketed around f r = if nat_lt around 128 then result_map_both f (λ t. t) r else Err too_deep
-
--- a key that is there keeps its place and takes the value, and a new key goes last
-abbrev pub put : List ℕ → Datum → List (List ℕ × Datum) → List (List ℕ × Datum)
-put k v [] = (k, v) ∷ []
-put k v (p ∷ ps) = if bytes_eq k p.0 then (p.0, v) ∷ ps else p ∷ put k v ps
 
 abbrev pub put_all : List (List ℕ × Datum) → List (List ℕ × Datum) → List (List ℕ × Datum)
 put_all done [] = done

@@ -19,4 +19,4 @@ returns-in_ok-add_in_place c =
     let fs = c.args.self.now.frames in
     let e = c.if-is_empty.ensures in let k = fs.ok.0 in let j = frames_length fs.items in
     let some : 0 < length (frames_of fs.items) = grind (arith, nat_tests) in
-    still_open c.args.self.now.progress (frames_of c.add_in_place.new.frames.items) c.requires.«open» ∙ ap b.building c.in_ok-add_in_place.ensures ∙ added (datum c.args.item) (frames_of fs.items) some
+    still_open c.args.self.now.progress (frames_of c.add_in_place.new.frames.items) c.requires ∙ ap b.building c.in_ok-add_in_place.ensures ∙ added (datum c.args.item) (frames_of fs.items) some

@@ -10,12 +10,6 @@ into_item-requires c =
     let f = open_fits s.progress (frames_of s.frames.items) (sym c.if-not-is_open.ensures) c.requires in
     (_, (popped_fits s.frames.items c.pop.new.self.items c.in-Some.frame c.in-Some.ensures.items f).0)
 
-pub add_open-requires-clause-fits : goal.add_open-requires-clause-fits
-add_open-requires-clause-fits c =
-    let s = c.args.self.now in
-    let f = open_fits s.progress (frames_of s.frames.items) (sym c.if-not-is_open.ensures) c.requires in
-    (popped_fits s.frames.items c.pop.new.self.items c.in-Some.frame c.in-Some.ensures.items f).1
-
 pub returns-in-None : goal.returns-in-None
 returns-in-None c =
     let s = c.args.self.now in

@@ -1,0 +1,24 @@
+-- How the code reads a string, whose opening quote is before the line.
+use denote.Ref.{Bor}
+use Rattle.std.specs.Prelude.{◌≡◌, ◌<◌, ℕ, suc, List, [], ◌∷◌, length, Option, None, IfSome, MatchOption}
+use Rattle.json_text.specs.Scan.{string_at, after_bytes}
+use Rattle.json_text.specs.Machine as m
+
+-- the string is this text, with this behind it, or it is none in UTF-8
+abbrev pub IsText : List ℕ → List ℕ → List ℕ → Type 0
+IsText line text behind = m.string_token (string_at line) ≡ (m.characters text, behind)
+
+abbrev pub IsNoText : List ℕ → Type 0
+IsNoText line = m.string_token (string_at line) ≡ (m.bad, [])
+
+abbrev pub FindsText : List ℕ → Option (List ℕ × Bor (List ℕ)) → Type 0
+FindsText line o = MatchOption o (IsNoText line) (λ p. IsText line p.0 p.1.now)
+
+-- what is left behind an escape whose backslash is before the line, with the bytes so far
+abbrev pub IsPastEscape : List ℕ → List ℕ → List ℕ → Option (Bor (List ℕ)) → Type 0
+IsPastEscape line old new o =
+    MatchOption o (string_at (92 ∷ line) ≡ None)
+    (λ left. after_bytes old (string_at (92 ∷ line)) ≡ after_bytes new (string_at left.now))
+
+abbrev pub IsShorter : List ℕ → Option (Bor (List ℕ)) → Type 0
+IsShorter line o = IfSome o (λ left. length left.now < suc (length line))
