@@ -6,9 +6,9 @@ use Rattle.std.proofs.lemmas.Bool.Decides.{nat_tests}
 use Rattle.std.proofs.lemmas.List.{reverse-append, map-append, length-reverse, length-map}
 use Rattle.item_tree.specs.Datum.{Datum}
 use Rattle.json_text.specs.Meaning.{too_deep}
-use Rattle.json_text.specs.Machine as m
-use Rattle.json_text.specs.Build as b
-use Rattle.json_text.specs.Fits.{FrameFits, FramesFit, BuildFits}
+use Rattle.json_text.specs.inside.Machine as m
+use Rattle.json_text.specs.inside.Build as b
+use Rattle.json_text.specs.inside.Fits.{FrameFits, FramesFit, BuildFits}
 use Rattle.item_reader.specs.declared.frame.Frame.{Frame}
 use Rattle.item_reader.specs.declared.build.Progress.{Progress}
 use Rattle.item_reader.specs.declared.build.Progress.TheVariants.{Open, Done, Troubled}

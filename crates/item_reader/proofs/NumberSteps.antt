@@ -6,7 +6,7 @@ use Rattle.std.proofs.Common.{sym, ◌∙◌, ap, subst, inl, inr, arith, append
 use Rattle.std.proofs.lemmas.List.{take_at}
 use Rattle.num_fixed.specs.Numeral.{Sign, none, plus, minus, Numeral, IsSign, IsFrac, IsExp, IsNumeral}
 use Rattle.json_text.specs.Json.{IsJsonNumber}
-use Rattle.json_text.specs.Scan.{Part, digits_at, minus_at, int_at, frac_at, exp_at, numeral_at}
+use Rattle.json_text.specs.inside.Scan.{Part, digits_at, minus_at, int_at, frac_at, exp_at, numeral_at}
 use Rattle.json_text.proofs.NumeralLemmas.{PartIs, numeral_is}
 use Rattle.item_reader.proofs.Parts.{part_there, no_part, same_rests}
 

@@ -1,7 +1,7 @@
 -- A byte in front of a list, and something with a rest behind it.
 use Rattle.std.specs.Prelude.{◌≡◌, ℕ, List, [], ◌∷◌, Option, Some, None, option_map, refl}
 use Rattle.std.proofs.Common.{sym, ap}
-use Rattle.json_text.specs.Scan.{Part, and_then}
+use Rattle.json_text.specs.inside.Scan.{Part, and_then}
 use Rattle.item_reader.specs.Tokens.{uncons}
 
 paired : (p q : ℕ × List ℕ) → Some p ≡ Some q → p ≡ q

@@ -2,7 +2,7 @@
 use Rattle.std.specs.Prelude.{◌≡◌, ℕ, true, false, List, Option, Some, option_map, refl}
 use Rattle.std.proofs.Common.{sym, ◌∙◌, ap, subst}
 use Rattle.json_text.specs.Line.{Reading, blank, is_blank, ReadsAs}
-use Rattle.json_text.specs.Build as b
+use Rattle.json_text.specs.inside.Build as b
 use Rattle.json_text.proofs.ReadingLemmas.{never_building, reading_exact}
 use Rattle.item_reader.specs.declared.build.Build.{Build}
 use Rattle.item_reader.specs.declared.build.Progress.{Progress}

@@ -10,8 +10,8 @@ use Rattle.std.proofs.lemmas.List.{take-append-drop}
 use Rattle.std.proofs.Common.{sym, ◌∙◌, ap, subst, arith, append-nil, lit<}
 use Rattle.std.proofs.lemmas.Bool.{cond_both, and_from, ne_eqb}
 use Rattle.item_tree.specs.JsonString.{is_raw}
-use Rattle.json_text.specs.Scan.{Part, string_at, after_bytes}
-use Rattle.json_text.specs.Machine.{characters, bad, string_token}
+use Rattle.json_text.specs.inside.Scan.{Part, string_at, after_bytes}
+use Rattle.json_text.specs.inside.Machine.{characters, bad, string_token}
 use Rattle.json_text.proofs.SpellLemmas.{after_none, after_after, stretch_spelled, quote_spelled, end_spelled, control_spelled}
 use Rattle.item_reader.specs.Tokens.{uncons, begins}
 use Rattle.item_reader.proofs.Parts.{cons_of, nil_of}

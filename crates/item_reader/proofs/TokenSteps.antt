@@ -3,8 +3,8 @@ use Rattle.std.specs.Prelude.{◌≡◌, ◌==◌, ◌||◌, ℕ, Bool, true, fa
 use Rattle.std.proofs.Common.{sym, ◌∙◌, ap}
 use Rattle.json_text.specs.Json.{is_space}
 use Rattle.std.proofs.lemmas.Bool.{ne_eqb}
-use Rattle.json_text.specs.Scan.{string_at, numeral_at}
-use Rattle.json_text.specs.Machine.{end, token_from, token_at, string_token, numeral_token}
+use Rattle.json_text.specs.inside.Scan.{string_at, numeral_at}
+use Rattle.json_text.specs.inside.Machine.{end, token_from, token_at, string_token, numeral_token}
 use Rattle.item_reader.specs.declared.token.Token.TheVariants.{OpenArray, CloseArray, OpenObject, CloseObject, Comma, Colon}
 use Rattle.item_reader.specs.Tokens.{IsPart, is_mark, uncons, begins}
 use Rattle.item_reader.proofs.Parts.{cons_of, nil_of}

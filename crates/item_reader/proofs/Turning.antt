@@ -6,10 +6,10 @@ use Rattle.std.proofs.lemmas.List.{reverse-append, length-reverse}
 use Rattle.num_fixed.specs.Numeral.{Numeral}
 use Rattle.num_fixed.specs.Values.{said}
 use Rattle.item_tree.specs.Datum.{Datum, text}
-use Rattle.json_text.specs.Machine as m
+use Rattle.json_text.specs.inside.Machine as m
 use Rattle.json_text.specs.Meaning.{number_out}
-use Rattle.json_text.specs.Build as b
-use Rattle.json_text.specs.Fits.{BuildFits}
+use Rattle.json_text.specs.inside.Build as b
+use Rattle.json_text.specs.inside.Fits.{BuildFits}
 use Rattle.json_text.proofs.FitLemmas.{perform_fits}
 use Rattle.json_text.proofs.RunLemmas.{run_turn, takes}
 use Rattle.item_reader.proofs.Frames.{by_frames}

@@ -1,8 +1,8 @@
 -- How the code reads a string, whose opening quote is before the line.
 use denote.Ref.{Bor}
 use Rattle.std.specs.Prelude.{◌≡◌, ◌<◌, ℕ, suc, List, [], ◌∷◌, length, Option, None, IfSome, MatchOption}
-use Rattle.json_text.specs.Scan.{string_at, after_bytes}
-use Rattle.json_text.specs.Machine as m
+use Rattle.json_text.specs.inside.Scan.{string_at, after_bytes}
+use Rattle.json_text.specs.inside.Machine as m
 
 -- the string is this text, with this behind it, or it is none in UTF-8
 abbrev pub IsText : List ℕ → List ℕ → List ℕ → Type 0

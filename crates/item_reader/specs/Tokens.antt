@@ -3,9 +3,9 @@ use Rattle.std.specs.Prelude.{◌≡◌, ◌==◌, ◌||◌, ℕ, Bool, false, L
 use Rattle.item_tree.specs.Datum.{Datum, null, boolean}
 use Rattle.item_tree.specs.Item.{datum}
 use Rattle.json_text.specs.Meaning.{number_out}
-use Rattle.json_text.specs.Machine as m
+use Rattle.json_text.specs.inside.Machine as m
 use Rattle.num_fixed.specs.Values.{said}
-use Rattle.json_text.specs.Build.{number_outcome}
+use Rattle.json_text.specs.inside.Build.{number_outcome}
 use Rattle.item_reader.specs.declared.token.Token.{Token}
 use Rattle.item_reader.specs.declared.token.Token.TheVariants.{OpenArray, CloseArray, OpenObject, CloseObject, Comma, Colon, Atom, NumberOut, End, Bad}
 

@@ -1,15 +1,15 @@
 -- One turn of the machine, in the code.
 use denote.Ref.{Bor}
 use Rattle.std.specs.Prelude.{◌≡◌, ℕ, List, ◌∷◌, Bool, true, false, Option, Some, None, Result, IfOk}
-use Rattle.json_text.specs.Machine as m
-use Rattle.json_text.specs.Build as b
+use Rattle.json_text.specs.inside.Machine as m
+use Rattle.json_text.specs.inside.Build as b
 use Rattle.num_fixed.specs.Numeral.{Numeral}
 use Rattle.item_tree.specs.Datum.{Datum}
 use Rattle.item_tree.specs.declared.fault.NoMemory.{NoMemory}
 use Rattle.item_reader.specs.Tokens.{StandsFor, IsNumberOut, IsPart}
 use Rattle.item_reader.specs.declared.token.Token.{Token}
 use Rattle.item_reader.specs.View.{build_of, mode_of, kinds_of, on_frames}
-use Rattle.json_text.specs.Fits.{BuildFits}
+use Rattle.json_text.specs.inside.Fits.{BuildFits}
 use Rattle.item_reader.specs.declared.turn.State.{State}
 use Rattle.item_reader.specs.declared.turn.Turn.{Turn}
 use Rattle.item_reader.specs.declared.turn.Turn.TheVariants.{More, End, NotJson}

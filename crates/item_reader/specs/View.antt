@@ -3,8 +3,8 @@ use Rattle.std.specs.Prelude.{◌≡◌, ℕ, Bool, true, false, List, [], ◌�
 use Rattle.item_tree.specs.Datum.{Datum, array_of_list, object_of_pairs}
 use Rattle.item_tree.specs.Item.{datum, datums}
 use Rattle.json_text.specs.Meaning as j
-use Rattle.json_text.specs.Machine as m
-use Rattle.json_text.specs.Build as b
+use Rattle.json_text.specs.inside.Machine as m
+use Rattle.json_text.specs.inside.Build as b
 use Rattle.item_reader.specs.declared.frame.Frame.{Frame}
 use Rattle.item_reader.specs.declared.frame.Frame.TheVariants.{Array, Object}
 use Rattle.item_reader.specs.declared.build.Trouble.{Trouble}

@@ -2,9 +2,9 @@
 
 ghost use Rattle.std.specs.Prelude.{◌≡◌, true, OnOk};
 ghost use Rattle.item_tree.specs.Item.{datum};
-ghost use Rattle.json_text.specs.Build.{start, push_frame as push_frame_of, add as add_of, close as close_of, set_key as set_key_of, troubled};
+ghost use Rattle.json_text.specs.inside.Build.{start, push_frame as push_frame_of, add as add_of, close as close_of, set_key as set_key_of, troubled};
 ghost use Rattle.item_reader.specs.View.{is_open as is_open_of, Does, frame_of, frames_in, build_of, trouble_of};
-ghost use Rattle.json_text.specs.Fits.{BuildFits};
+ghost use Rattle.json_text.specs.inside.Fits.{BuildFits};
 
 use crate::frame::{Frame, add_in_place, set_key_in_place};
 use item_tree::{Item, NoMemory, Str};

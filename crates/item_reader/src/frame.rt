@@ -4,7 +4,7 @@ ghost use Rattle.std.specs.Prelude.{◌≡◌, ◌<◌, ◌+◌, ℕ, IfOk, OnOk
 ghost use Rattle.item_tree.specs.Datum.{array_of_list, object_of_pairs};
 ghost use Rattle.item_tree.specs.Item.{datum, datums};
 ghost use Rattle.item_reader.specs.View.{value_of, frame_of, add_inside, key_inside, OnLast};
-ghost use Rattle.json_text.specs.Fits.{AllFit, PairsFit, FrameFits};
+ghost use Rattle.json_text.specs.inside.Fits.{AllFit, PairsFit, FrameFits};
 
 use item_tree::{Item, MakeFault, NoMemory, PairList, Str, array_of, object_of_distinct};
 use std::alloc::Global;

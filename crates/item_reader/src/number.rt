@@ -4,9 +4,9 @@ ghost use Rattle.std.specs.Prelude.{◌≡◌, [], option_map, IfSome};
 ghost use Rattle.std.specs.Char.{is_ascii_digit};
 ghost use Rattle.std.specs.List.{prefix_len};
 ghost use Rattle.num_fixed.specs.Numeral.{Numeral, IsNumeral};
-ghost use Rattle.json_text.specs.Scan.{digits_at, int_at, frac_at, exp_at, numeral_at, some_digits_at, minus_at, sign_at, is_int as is_int_of};
-ghost use Rattle.json_text.specs.Machine.{numeral_token as numeral_token_of};
-ghost use Rattle.json_text.specs.Machine as m;
+ghost use Rattle.json_text.specs.inside.Scan.{digits_at, int_at, frac_at, exp_at, numeral_at, some_digits_at, minus_at, sign_at, is_int as is_int_of};
+ghost use Rattle.json_text.specs.inside.Machine.{numeral_token as numeral_token_of};
+ghost use Rattle.json_text.specs.inside.Machine as m;
 ghost use Rattle.item_reader.specs.Tokens.{StandsFor, IsPart};
 
 use crate::token::Token;

@@ -1,6 +1,6 @@
 ghost use Rattle.std.specs.Prelude.{◌≡◌, IfOk, IfErr, option_map};
 ghost use Rattle.json_text.specs.Line.{is_blank as is_blank_of, is_line_space as is_line_space_of};
-ghost use Rattle.json_text.specs.Build.{made, reading};
+ghost use Rattle.json_text.specs.inside.Build.{made, reading};
 ghost use Rattle.item_reader.specs.View.{build_of};
 ghost use Rattle.item_reader.specs.Outcomes.{Gives, Raises, AnswersLine};
 

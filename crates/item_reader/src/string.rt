@@ -4,7 +4,7 @@ ghost use Rattle.std.specs.Prelude.{◌≡◌, ◌<◌, ◌≤◌, ℕ, slice_in
 ghost use Rattle.std.specs.List.{prefix_len};
 ghost use Rattle.std.specs.Str.{IsUtf8, chars};
 ghost use Rattle.item_tree.specs.JsonString.{is_raw as is_raw_of};
-ghost use Rattle.json_text.specs.Scan.{string_at};
+ghost use Rattle.json_text.specs.inside.Scan.{string_at};
 ghost use Rattle.item_reader.specs.Strings.{IsText, FindsText, IsPastEscape, IsShorter};
 
 use crate::token::uncons;

@@ -2,8 +2,8 @@
 
 ghost use Rattle.std.specs.Prelude.{◌≡◌, ◌≢◌, ◌∷◌, true, false, option_map};
 ghost use Rattle.json_text.specs.Json.{is_space};
-ghost use Rattle.json_text.specs.Machine.{token_at, token_from as token_from_of, word_at};
-ghost use Rattle.json_text.specs.Machine as m;
+ghost use Rattle.json_text.specs.inside.Machine.{token_at, token_from as token_from_of, word_at};
+ghost use Rattle.json_text.specs.inside.Machine as m;
 ghost use Rattle.item_reader.specs.Tokens.{IsPart, is_mark, begins, behind_n, behind_t, behind_f, uncons as uncons_of};
 
 use crate::number::number_token;
@@ -102,7 +102,7 @@ fn false_token(line: &[u8]) -> (Token, &[u8])
 }
 
 // The token of a text that begins with this byte, which is no space, no mark and no quote.
-#[tactic(auto, unfolding(json_text::specs::Machine::token_from))]
+#[tactic(auto, unfolding(json_text::specs::inside::Machine::token_from))]
 pub(crate) fn value_from<'a>(b: u8, rest: &'a [u8], line: &'a [u8]) -> (Token, &'a [u8])
     requires line { line.now ≡ b ∷ rest.now }
     requires value { is_mark b ≡ false }

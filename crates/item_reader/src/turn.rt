@@ -2,13 +2,13 @@
 
 ghost use Rattle.std.specs.Prelude.{◌≡◌, ◌∷◌, [], ℕ, List, true, false, IfOk, OnOk};
 ghost use Rattle.item_tree.specs.Item.{datum};
-ghost use Rattle.json_text.specs.Machine.{token_at, token_from, string_token};
-ghost use Rattle.json_text.specs.Scan.{string_at};
-ghost use Rattle.json_text.specs.Machine as m;
-ghost use Rattle.json_text.specs.Build.{start};
+ghost use Rattle.json_text.specs.inside.Machine.{token_at, token_from, string_token};
+ghost use Rattle.json_text.specs.inside.Scan.{string_at};
+ghost use Rattle.json_text.specs.inside.Machine as m;
+ghost use Rattle.json_text.specs.inside.Build.{start};
 ghost use Rattle.item_reader.specs.Tokens.{StandsFor};
 ghost use Rattle.item_reader.specs.View.{build_of, mode_of, kinds_of};
-ghost use Rattle.json_text.specs.Fits.{BuildFits};
+ghost use Rattle.json_text.specs.inside.Fits.{BuildFits};
 ghost use Rattle.item_reader.specs.Turns.{IsTurn, IsAdded, Steps, Opens, PassesNumber, TurnsBy, TurnsPart, GivesTurn, closing};
 
 use crate::build::{Build, Trouble};

@@ -5,8 +5,8 @@ use Rattle.std.proofs.Common.{sym, ◌∙◌, ap, append_assoc, append-nil}
 use Rattle.item_tree.specs.Datum.{Datum, array_of_list, object_of_pairs}
 use Rattle.json_text.specs.Raw.{Raw, raw_null, raw_boolean, raw_number, raw_string, raw_array, raw_object, Raws, no_raws, raw_value, Fields, no_fields, field}
 use Rattle.json_text.specs.Meaning.{Trouble, too_deep, Outcome, together, put, put_all, object_of_fields}
-use Rattle.json_text.specs.Machine.{Event, closes}
-use Rattle.json_text.specs.Build.{Frame, open_array, open_object, Build, building, troubled, add, settle, perform_all}
+use Rattle.json_text.specs.inside.Machine.{Event, closes}
+use Rattle.json_text.specs.inside.Build.{Frame, open_array, open_object, Build, building, troubled, add, settle, perform_all}
 use Rattle.json_text.proofs.Events.{events, all_events, field_events}
 use Rattle.json_text.proofs.ItemOf.{item_of, items_of, pairs_of}
 

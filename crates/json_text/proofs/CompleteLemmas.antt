@@ -4,7 +4,7 @@ use Rattle.std.proofs.Common.{sym, ◌∙◌, ap, subst, inl, inr, arith}
 use Rattle.std.proofs.lemmas.Bool.Decides.{nat_tests}
 use Rattle.json_text.specs.Raw.{Raw, raw_null, raw_boolean, raw_number, raw_string, raw_array, raw_object, Raws, no_raws, raw_value, Fields, no_fields, field}
 use Rattle.json_text.specs.Json.{is_space, Spaces, Structural, Value, Elements, MoreElements, Members, MoreMembers, Json}
-use Rattle.json_text.specs.Machine.{null_word, boolean_word, numeral, characters, token_at, token_from, Event, opens_array, opens_object, closes, keyed, emit, value, key, name, after, Kinds, Events, run}
+use Rattle.json_text.specs.inside.Machine.{null_word, boolean_word, numeral, characters, token_at, token_from, Event, opens_array, opens_object, closes, keyed, emit, value, key, name, after, Kinds, Events, run}
 use Rattle.json_text.proofs.NumeralLemmas.{is_of_number, Stops}
 use Rattle.json_text.proofs.TokenLemmas.{null_token, boolean_token, number_token, string_token_at}
 use Rattle.json_text.proofs.RunLemmas.{run_behind, run_spaces, run_token}

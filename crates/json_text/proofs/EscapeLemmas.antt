@@ -1,7 +1,7 @@
--- An escape at the front of a text.
+-- An escape at the front of a text. For other crates too.
 use Rattle.std.proofs.Common.{◌≡◌, ◌-◌, ◌<◌, ◌≤◌, ℕ, List, ◌∷◌, [], length, take, drop, slice_index_or, Option, Some, None, IfSome, IfNone, option_map, ap, sym, subst, ◌∙◌, arith}
 use Rattle.std.proofs.Math.Seq.{take-length}
-use Rattle.json_text.specs.Scan.{string_at}
+use Rattle.json_text.specs.inside.Scan.{string_at}
 use Rattle.json_text.specs.declared.escapes.Spelled.{Spelled}
 use Rattle.json_text.specs.Escapes.{Escape, IsSound, Begins, escape_of}
 use Rattle.json_text.proofs.SpellLemmas.{Spells, escape_spells}

@@ -1,7 +1,7 @@
 -- The events of a raw value.
 use Rattle.std.specs.Prelude.{List, ◌∷◌}
 use Rattle.json_text.specs.Raw.{Raw, raw_null, raw_boolean, raw_number, raw_string, raw_array, raw_object, Raws, no_raws, raw_value, Fields, no_fields, field}
-use Rattle.json_text.specs.Machine.{Event, opens_array, opens_object, closes, keyed, a_null, a_boolean, a_number, a_string}
+use Rattle.json_text.specs.inside.Machine.{Event, opens_array, opens_object, closes, keyed, a_null, a_boolean, a_number, a_string}
 
 -- and then more events
 abbrev mutual

@@ -10,10 +10,10 @@ use Rattle.item_tree.specs.Datum.{Datum, null, boolean, text, array_of_list, obj
 use Rattle.item_tree.specs.Made.{HasDeep, HasDeepPair}
 use Rattle.item_tree.proofs.Puts.{keys_put}
 use Rattle.json_text.specs.Meaning.{put, put_all, number_datum}
-use Rattle.json_text.specs.Machine.{Event, opens_array, opens_object, closes, keyed, a_null, a_boolean, a_number, a_string}
-use Rattle.json_text.specs.Build.{Frame, open_array, open_object, Build, building, done, troubled, add, settle, close, set_key, push_frame, perform, number_outcome}
+use Rattle.json_text.specs.inside.Machine.{Event, opens_array, opens_object, closes, keyed, a_null, a_boolean, a_number, a_string}
+use Rattle.json_text.specs.inside.Build.{Frame, open_array, open_object, Build, building, done, troubled, add, settle, close, set_key, push_frame, perform, number_outcome}
 use Rattle.num_fixed.specs.Values.{number_in_bounds, said}
-use Rattle.json_text.specs.Fits.{AllFit, PairsFit, FrameFits, FramesFit, BuildFits}
+use Rattle.json_text.specs.inside.Fits.{AllFit, PairsFit, FrameFits, FramesFit, BuildFits}
 
 pub all_depth : (around : ℕ) (xs : List Datum) → around ≤ 128 → AllFit around xs → data_depth (values xs) + around ≤ 128
 all_depth around [] h a = omega arith

@@ -5,7 +5,7 @@ use Rattle.item_tree.specs.Datum.{Datum, null, boolean, text, array_of_list}
 use Rattle.json_text.specs.Raw.{Raw, raw_null, raw_boolean, raw_number, raw_string, raw_array, raw_object, Raws, no_raws, raw_value, Fields, no_fields, field}
 use Rattle.json_text.specs.Meaning.{Outcome, together, bracketed, object_of_fields, Gives, AllGive, FieldsGive}
 use Rattle.num_fixed.specs.Values.{said}
-use Rattle.json_text.specs.Build.{number_outcome}
+use Rattle.json_text.specs.inside.Build.{number_outcome}
 use Rattle.json_text.proofs.NumberLemmas.{number_gives, number_gives_one}
 
 abbrev mutual

@@ -1,8 +1,8 @@
 -- What a loop over the tokens of a text keeps: what the rest of the text makes of what is built is what the whole text makes of the start.
 use Rattle.std.specs.Prelude.{◌≡◌, ◌<◌, ℕ, List, [], ◌∷◌, length, Option, Some, None, refl}
 use Rattle.std.proofs.Common.{sym, ◌∙◌, ap, subst, inl, inr}
-use Rattle.json_text.specs.Machine.{Token, end, bad, token_at, Event, emit, Mode, value, key, name, after, Kinds, Events, Turn, stops, ends, goes, turn, follow, run}
-use Rattle.json_text.specs.Build.{Build, perform, outcome}
+use Rattle.json_text.specs.inside.Machine.{Token, end, bad, token_at, Event, emit, Mode, value, key, name, after, Kinds, Events, Turn, stops, ends, goes, turn, follow, run}
+use Rattle.json_text.specs.inside.Build.{Build, perform, outcome}
 use Rattle.json_text.proofs.RunLemmas.{run_token, takes, Takes}
 
 outcome_emit : (b : Build) (e : Event) (r : Events) → outcome b (emit e r) ≡ outcome (perform b e) r

@@ -9,7 +9,7 @@ use Rattle.num_fixed.specs.declared.number.Number.{Number}
 use Rattle.num_fixed.proofs.ValueLemmas.{says, says_one, number_inside, number_outside}
 use Rattle.item_tree.specs.Datum.{Datum}
 use Rattle.json_text.specs.Meaning.{number_out, Outcome, NumberGives, number_datum}
-use Rattle.json_text.specs.Build.{number_outcome}
+use Rattle.json_text.specs.inside.Build.{number_outcome}
 
 pub number_gives : (n : Numeral) → NumberGives n (number_outcome (said n))
 number_gives n =

@@ -1,4 +1,4 @@
--- Numbers, taken from the front of a text.
+-- Numbers, taken from the front of a text. For other crates too.
 use Rattle.std.specs.Prelude.{◌≡◌, ◌⊎◌, ◌<◌, ℕ, Bool, true, false, ◌==◌, ◌||◌, nat_lt, List, [], ◌∷◌, ◌++◌, length, Option, Some, None, option_map, refl}
 use Rattle.std.specs.Char.{is_ascii_digit}
 use Rattle.std.specs.List.{list_all}
@@ -7,7 +7,7 @@ use Rattle.std.proofs.lemmas.Bool.{and_parts, and_from, or_parts, or_cases, not-
 use Rattle.std.proofs.lemmas.Bool.Decides.{nat_tests}
 use Rattle.num_fixed.specs.Numeral.{Sign, none, plus, minus, Numeral, AreDigits, IsSign, IsFrac, IsExp, frac_digits}
 use Rattle.json_text.specs.Json.{IsInt, IsMinusOrNone, HasDigits, IsJsonNumber}
-use Rattle.json_text.specs.Scan.{Part, and_then, digits_at, some_digits_at, minus_at, sign_at, is_int, int_at, frac_at, exp_at, numeral_at}
+use Rattle.json_text.specs.inside.Scan.{Part, and_then, digits_at, some_digits_at, minus_at, sign_at, is_int, int_at, frac_at, exp_at, numeral_at}
 
 -- a byte that a number could go on with
 abbrev pub is_of_number : ℕ → Bool

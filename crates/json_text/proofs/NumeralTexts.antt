@@ -4,7 +4,7 @@ use Rattle.std.proofs.Common.{sym, ◌∙◌, ap, subst, inl, inr, arith, append
 use Rattle.std.proofs.Math.Seq.{take-append_seam}
 use Rattle.num_fixed.specs.Numeral.{Sign, none, plus, minus, Numeral, IsSign, IsFrac, IsExp, IsNumeral}
 use Rattle.json_text.specs.Json.{IsJsonNumber}
-use Rattle.json_text.specs.Scan.{numeral_at}
+use Rattle.json_text.specs.inside.Scan.{numeral_at}
 use Rattle.json_text.proofs.NumeralLemmas.{PartIs, numeral_is}
 
 -- some bytes before a rest have a property of whole texts

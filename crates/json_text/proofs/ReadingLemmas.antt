@@ -1,4 +1,4 @@
--- A line reads as what a reader makes of it.
+-- A line reads as what a reader makes of it. For other crates too.
 use Rattle.std.specs.Prelude.{◌≡◌, ℕ, true, false, List, [], ◌∷◌, Option, Some, None, Ok, Err, refl}
 use Rattle.std.specs.List.{list_all}
 use Rattle.std.proofs.Common.{sym, ◌∙◌, ap, subst, inl, inr, arith}
@@ -10,8 +10,8 @@ use Rattle.json_text.specs.Raw.{Raw}
 use Rattle.json_text.specs.Json.{is_space, Json}
 use Rattle.json_text.specs.Meaning.{Trouble, Outcome, Gives}
 use Rattle.json_text.specs.Line.{is_blank, is_line_space, Reading, blank, item, fault, code_of, ReadsAs}
-use Rattle.json_text.specs.Machine.{Events, Event, end, token_at, value, run}
-use Rattle.json_text.specs.Build.{Frame, Build, building, done, troubled, settle, outcome, start, made, reading_of, reading}
+use Rattle.json_text.specs.inside.Machine.{Events, Event, end, token_at, value, run}
+use Rattle.json_text.specs.inside.Build.{Frame, Build, building, done, troubled, settle, outcome, start, made, reading_of, reading}
 use Rattle.json_text.specs.Laws.{ReadingIsExact}
 use Rattle.json_text.proofs.CompleteLemmas.{text_runs}
 use Rattle.json_text.proofs.SoundLemmas.{run_is_text}

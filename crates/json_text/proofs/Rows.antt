@@ -7,10 +7,10 @@ use Rattle.item_tree.specs.Datum.{Datum, null, boolean, integer, decimal, text, 
 use Rattle.item_tree.specs.JsonString.{code_unit}
 use Rattle.item_tree.specs.declared.code.Code.TheVariants.{JNDY0021, PJDY0002, PJDY0004}
 use Rattle.json_text.specs.Line.{Reading, blank, item, fault, ReadsAs}
-use Rattle.json_text.specs.Scan.{digits_at, numeral_at, pieces_at}
-use Rattle.json_text.specs.Machine.{token_from, token_at, run_for, run}
+use Rattle.json_text.specs.inside.Scan.{digits_at, numeral_at, pieces_at}
+use Rattle.json_text.specs.inside.Machine.{token_from, token_at, run_for, run}
 use Rattle.num_fixed.specs.Values.{near_natural, near, units_said}
-use Rattle.json_text.specs.Build.{reading}
+use Rattle.json_text.specs.inside.Build.{reading}
 use Rattle.json_text.proofs.ReadingLemmas.{reads}
 
 abbrev pub Row : Type 0

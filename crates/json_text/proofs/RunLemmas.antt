@@ -1,11 +1,11 @@
--- A run takes a byte at each turn but the last, so it is a turn and then a run of what is behind the token.
+-- A run takes a byte at each turn but the last, so it is a turn and then a run of what is behind the token. For other crates too.
 use Rattle.std.specs.Prelude.{◌≡◌, ◌⊎◌, ◌<◌, ◌≤◌, ℕ, zero, suc, Bool, true, false, List, [], ◌∷◌, ◌++◌, length, Option, Some, None, codes, refl}
 use Rattle.std.proofs.Common.{sym, ◌∙◌, ap, inl, inr, arith, length-append}
 use Rattle.num_fixed.specs.Numeral.{Sign, none, plus, minus, Numeral, IsSign, IsFrac, IsExp}
 use Rattle.item_tree.specs.JsonString.{Piece, byte, unit, ArePieces, IsString}
 use Rattle.json_text.specs.Raw.{raw_boolean}
 use Rattle.json_text.specs.Json.{Spaces, IsJsonNumber, Value}
-use Rattle.json_text.specs.Machine.{Token, open_array, close_array, open_object, close_object, comma, colon, null_word, boolean_word, numeral, characters, end, bad, token_at, Mode, value, key, name, after, Kinds, Next, turn, follow, step, run_for, run}
+use Rattle.json_text.specs.inside.Machine.{Token, open_array, close_array, open_object, close_object, comma, colon, null_word, boolean_word, numeral, characters, end, bad, token_at, Mode, value, key, name, after, Kinds, Next, turn, follow, step, run_for, run}
 use Rattle.json_text.proofs.NumeralLemmas.{int_some}
 use Rattle.json_text.proofs.TokenLemmas.{IsToken, token_sound, token_behind_spaces}
 

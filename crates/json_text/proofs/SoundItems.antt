@@ -11,8 +11,8 @@ use Rattle.json_text.specs.Raw.{Raw, raw_null, raw_boolean, raw_number, raw_stri
 use Rattle.json_text.specs.Json.{Value, Elements, MoreElements, Members, MoreMembers}
 use Rattle.json_text.specs.Meaning.{too_deep, Outcome, together, bracketed, put, put_all, object_of_fields, number_datum}
 use Rattle.num_fixed.specs.Values.{number_in_bounds, said}
-use Rattle.json_text.specs.Build.{number_outcome}
-use Rattle.json_text.specs.Fits.{AllFit, PairsFit}
+use Rattle.json_text.specs.inside.Build.{number_outcome}
+use Rattle.json_text.specs.inside.Fits.{AllFit, PairsFit}
 use Rattle.json_text.specs.Laws.{ItemsAreSound}
 use Rattle.num_fixed.proofs.ValueLemmas.{number_inside}
 use Rattle.json_text.proofs.ItemOf.{item_of, items_of, pairs_of, gives_one}

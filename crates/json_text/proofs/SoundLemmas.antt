@@ -4,7 +4,7 @@ use Rattle.std.proofs.Common.{inl, inr}
 use Rattle.item_tree.specs.JsonString.{IsString}
 use Rattle.json_text.specs.Raw.{Raw, raw_null, raw_boolean, raw_number, raw_string, raw_array, raw_object, Raws, no_raws, raw_value, Fields, no_fields, field}
 use Rattle.json_text.specs.Json.{Spaces, Structural, Value, MoreElements, MoreMembers, Json}
-use Rattle.json_text.specs.Machine.{Token, open_array, close_array, open_object, close_object, comma, colon, null_word, boolean_word, numeral, characters, end, token_at, Event, opens_array, opens_object, closes, keyed, a_null, a_boolean, a_number, a_string, emit, Mode, value, key, name, after, Kinds, Events, Next, turn, follow, run_for, run}
+use Rattle.json_text.specs.inside.Machine.{Token, open_array, close_array, open_object, close_object, comma, colon, null_word, boolean_word, numeral, characters, end, token_at, Event, opens_array, opens_object, closes, keyed, a_null, a_boolean, a_number, a_string, emit, Mode, value, key, name, after, Kinds, Events, Next, turn, follow, run_for, run}
 use Rattle.json_text.proofs.TokenLemmas.{IsToken, spaces_none, token_sound}
 
 -- ---- what is left of a text under the brackets that are open

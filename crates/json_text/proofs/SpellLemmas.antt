@@ -1,11 +1,11 @@
--- Copying a string by stretches and escapes, with one look ahead at a high half.
+-- Copying a string by stretches and escapes, with one look ahead at a high half. For other crates too.
 use Rattle.std.specs.Prelude.{◌≡◌, ◌⊎◌, ℕ, Bool, true, false, cond, ◌==◌, ◌&&◌, List, [], ◌∷◌, ◌++◌, Option, Some, None, option_map, refl}
 use Rattle.std.specs.List.{list_all}
 use Rattle.std.proofs.Common.{sym, ◌∙◌, ap, subst, inl, inr, append_assoc, append-nil}
 use Rattle.std.specs.Char.{encode_utf8}
 use Rattle.std.proofs.lemmas.Bool.{and_parts, cond_both, eqb-true}
 use Rattle.item_tree.specs.JsonString.{Piece, byte, unit, is_raw, short_escape, code_unit, is_high_half, is_low_half, lone_character, paired_character, content}
-use Rattle.json_text.specs.Scan.{Part, plain, after_backslash, after_u, put_front, byte_front, unit_front, pieces_at, spell, string_at, after_bytes}
+use Rattle.json_text.specs.inside.Scan.{Part, plain, after_backslash, after_u, put_front, byte_front, unit_front, pieces_at, spell, string_at, after_bytes}
 use Rattle.json_text.specs.declared.escapes.Spelled.TheVariants.{Byte}
 use Rattle.json_text.specs.Escapes.{bytes_of, Unit16, digits_unit, low_half_of, low_half_at, other_half, unit_escape, long_escape, Escape, escape_of}
 use Rattle.json_text.proofs.StringLemmas.{raw_facts, short_is_no_u}

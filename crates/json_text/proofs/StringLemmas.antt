@@ -1,4 +1,4 @@
--- Strings, taken from the front of a text.
+-- Strings, taken from the front of a text. For other crates too.
 use Rattle.std.specs.Prelude.{◌≡◌, ℕ, true, false, ◌==◌, ◌&&◌, not, nat_le, List, [], ◌∷◌, Option, Some, None, refl}
 use Rattle.std.specs.Str.{chars, is_utf8}
 use Rattle.std.proofs.Common.{sym, ◌∙◌, ap, subst, inl, inr, arith}
@@ -6,7 +6,7 @@ use Rattle.std.proofs.lemmas.Bool.{and_parts, not-true, cond_both, eqb-true}
 use Rattle.std.proofs.lemmas.Bool.Decides.{nat_tests}
 use Rattle.std.proofs.lemmas.Str.{chars-encodes, encodes-chars, scalars-chars, IsUtf8-from_is_utf8, is_utf8-from_IsUtf8}
 use Rattle.item_tree.specs.JsonString.{Piece, byte, unit, is_raw, short_escape, code_unit, ArePieces, content, IsString}
-use Rattle.json_text.specs.Scan.{Part, plain, after_backslash, after_u, put_front, byte_front, unit_front, pieces_at}
+use Rattle.json_text.specs.inside.Scan.{Part, plain, after_backslash, after_u, put_front, byte_front, unit_front, pieces_at}
 use Rattle.json_text.proofs.NumeralLemmas.{PartIs}
 
 -- ---- what is written is taken

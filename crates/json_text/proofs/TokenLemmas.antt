@@ -12,8 +12,8 @@ use Rattle.num_fixed.specs.Numeral.{Numeral}
 use Rattle.item_tree.specs.JsonString.{Piece, content, IsString}
 use Rattle.json_text.specs.Raw.{raw_null, raw_boolean}
 use Rattle.json_text.specs.Json.{is_space, Spaces, IsJsonNumber, Value}
-use Rattle.json_text.specs.Scan.{Part, plain, pieces_at, spell, string_at, numeral_at}
-use Rattle.json_text.specs.Machine.{Token, open_array, close_array, open_object, close_object, comma, colon, null_word, boolean_word, numeral, characters, end, bad, word_at, numeral_token, string_token, token_from, token_at}
+use Rattle.json_text.specs.inside.Scan.{Part, plain, pieces_at, spell, string_at, numeral_at}
+use Rattle.json_text.specs.inside.Machine.{Token, open_array, close_array, open_object, close_object, comma, colon, null_word, boolean_word, numeral, characters, end, bad, word_at, numeral_token, string_token, token_from, token_at}
 use Rattle.json_text.proofs.NumeralLemmas.{Stops, PartIs, numeral_taken, number_first, numeral_is}
 use Rattle.json_text.proofs.StringLemmas.{string_taken, Written, pieces_are, string_is}
 

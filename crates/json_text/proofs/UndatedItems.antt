@@ -9,7 +9,7 @@ use Rattle.item_tree.specs.Datum.{Datum, array_of_list, values, members}
 use Rattle.json_text.specs.Raw.{Raw, raw_null, raw_boolean, raw_number, raw_string, raw_array, raw_object, Raws, no_raws, raw_value, Fields, no_fields, field}
 use Rattle.json_text.specs.Meaning.{put, put_all, object_of_fields, number_datum}
 use Rattle.num_fixed.specs.Values.{number_in_bounds, said}
-use Rattle.json_text.specs.Build.{number_outcome}
+use Rattle.json_text.specs.inside.Build.{number_outcome}
 use Rattle.json_text.specs.Undated.{Undated, AllUndated, MembersUndated}
 use Rattle.json_text.specs.Laws.{ItemsAreUndated}
 use Rattle.json_text.proofs.ItemOf.{item_of, items_of, pairs_of, gives_one}

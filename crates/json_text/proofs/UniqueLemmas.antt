@@ -3,7 +3,7 @@ use Rattle.std.specs.Prelude.{◌≡◌, List, [], ◌∷◌, Some, refl}
 use Rattle.std.proofs.Common.{sym, ◌∙◌, ap}
 use Rattle.json_text.specs.Raw.{Raw, raw_null, raw_boolean, raw_number, raw_string, raw_array, raw_object, Raws, no_raws, raw_value, Fields, no_fields, field}
 use Rattle.json_text.specs.Laws.{OneRawValue}
-use Rattle.json_text.specs.Machine.{Event, closes}
+use Rattle.json_text.specs.inside.Machine.{Event, closes}
 use Rattle.json_text.proofs.Events.{events, all_events, field_events}
 use Rattle.json_text.proofs.CompleteLemmas.{text_runs}
 

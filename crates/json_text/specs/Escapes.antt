@@ -1,8 +1,8 @@
--- What an escape in a string spells (RFC 8259, section 7), and what stands at the front of the inside of a string.
+-- What an escape in a string spells (RFC 8259, section 7), and what stands in front in a string.
 use Rattle.std.specs.Prelude.{◌≡◌, ◌<◌, ℕ, ◌==◌, ◌&&◌, List, [], ◌∷◌, length, Option, Some, None, option_map, if◌then◌else◌}
 use Rattle.std.specs.Char.{IsScalar, encode_utf8}
 use Rattle.item_tree.specs.JsonString.{short_escape, code_unit, is_high_half, is_low_half, lone_character, paired_character}
-use Rattle.json_text.specs.Scan.{string_at, after_bytes}
+use Rattle.json_text.specs.inside.Scan.{string_at, after_bytes}
 use Rattle.json_text.specs.declared.escapes.Spelled.{Spelled}
 use Rattle.json_text.specs.declared.escapes.Spelled.TheVariants as s
 
@@ -52,9 +52,12 @@ abbrev pub unit_escape : ℕ → List ℕ → Unit16 → Escape
 unit_escape u r None = Some (s.Char (lone_character u), r)
 unit_escape u r (Some p) = Some (s.Char (paired_character u p.0), p.1)
 
+abbrev pub unit_at : ℕ → List ℕ → Escape
+unit_at u r = unit_escape u r (other_half u r)
+
 abbrev pub long_escape : Unit16 → Escape
 long_escape None = None
-long_escape (Some p) = unit_escape p.0 p.1 (other_half p.0 p.1)
+long_escape (Some p) = unit_at p.0 p.1
 
 -- what an escape spells, from what is behind its backslash: a u and four digits, or one byte
 abbrev pub escape_of : List ℕ → Escape

@@ -40,7 +40,8 @@ abbrev pub HasDigits : Option (List ℕ) → Type 0
 HasDigits None = Unit {0}
 HasDigits (Some ds) = 0 < length ds
 
--- a numeral, without what JSON refuses: a plus in front, a zero before other digits, a point with no digit at a side of it
+-- a numeral, without what JSON refuses: a plus in front, a zero before other digits, a point with no
+-- digit at a side of it
 pub record IsJsonNumber (n : Numeral) (l r : List ℕ) : Type 0 where
   pub numeral : IsNumeral n l r
   pub sign : IsMinusOrNone n.sign
@@ -57,8 +58,12 @@ abbrev mutual
   Value (raw_boolean false) l r = l ≡ codes "false" ++ r
   Value (raw_number n) l r = IsJsonNumber n l r
   Value (raw_string cs) l r = IsString cs l r
-  Value (raw_array vs) l r = (m : List ℕ) × (n : List ℕ) × Structural 91 l m × Elements vs m n × Structural 93 n r
-  Value (raw_object fs) l r = (m : List ℕ) × (n : List ℕ) × Structural 123 l m × Members fs m n × Structural 125 n r
+  Value (raw_array vs) l r =
+      (m : List ℕ) × (n : List ℕ)
+      × Structural 91 l m × Elements vs m n × Structural 93 n r
+  Value (raw_object fs) l r =
+      (m : List ℕ) × (n : List ℕ)
+      × Structural 123 l m × Members fs m n × Structural 125 n r
 
   -- in an array: [ value *( value-separator value ) ]
   pub Elements : Raws → List ℕ → List ℕ → Type 0
@@ -68,19 +73,26 @@ abbrev mutual
   -- *( value-separator value )
   pub MoreElements : Raws → List ℕ → List ℕ → Type 0
   MoreElements no_raws l r = l ≡ r
-  MoreElements (raw_value v vs) l r = (m : List ℕ) × (n : List ℕ) × Structural 44 l m × Value v m n × MoreElements vs n r
+  MoreElements (raw_value v vs) l r =
+      (m : List ℕ) × (n : List ℕ)
+      × Structural 44 l m × Value v m n × MoreElements vs n r
 
-  -- in an object: [ member *( value-separator member ) ], where a member is string name-separator value
+  -- in an object: [ member *( value-separator member ) ]; member: string name-separator value
   pub Members : Fields → List ℕ → List ℕ → Type 0
   Members no_fields l r = l ≡ r
-  Members (field k v fs) l r = (m : List ℕ) × (n : List ℕ) × (o : List ℕ) × IsString k l m × Structural 58 m n × Value v n o × MoreMembers fs o r
+  Members (field k v fs) l r =
+      (m : List ℕ) × (n : List ℕ) × (o : List ℕ)
+      × IsString k l m × Structural 58 m n × Value v n o × MoreMembers fs o r
 
   -- *( value-separator member )
   pub MoreMembers : Fields → List ℕ → List ℕ → Type 0
   MoreMembers no_fields l r = l ≡ r
-  MoreMembers (field k v fs) l r = (s : List ℕ) × (m : List ℕ) × (n : List ℕ) × (o : List ℕ) × Structural 44 l s × IsString k s m × Structural 58 m n × Value v n o × MoreMembers fs o r
+  MoreMembers (field k v fs) l r =
+      (s : List ℕ) × (m : List ℕ) × (n : List ℕ) × (o : List ℕ)
+      × Structural 44 l s × IsString k s m × Structural 58 m n × Value v n o × MoreMembers fs o r
 
--- JSON-text: ws value ws, and nothing behind it. It is in UTF-8 (section 8.1), since the content of each string is, and all else is ASCII: that is the law `texts_are_utf8`.
+-- JSON-text: ws value ws, and nothing behind it. It is in UTF-8 (section 8.1), since the content of
+-- each string is, and all else is ASCII: that is the law `texts_are_utf8`.
 pub record Json (t : List ℕ) (v : Raw) : Type 0 where
   pub from : List ℕ
   pub to : List ℕ

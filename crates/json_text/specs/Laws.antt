@@ -8,7 +8,7 @@ use Rattle.json_text.specs.Json.{Json}
 use Rattle.json_text.specs.Line.{Reading, item, ReadsAs}
 use Rattle.json_text.specs.Plain.{plain}
 use Rattle.json_text.specs.Undated.{Undated}
-use Rattle.json_text.specs.Build.{reading}
+use Rattle.json_text.specs.inside.Build.{reading}
 
 -- a text says one raw value
 abbrev pub OneRawValue : Type 0

@@ -2,11 +2,8 @@ pub mod Raw
 pub mod Json
 pub mod Meaning
 pub mod Line
-pub mod Scan
 pub mod Escapes
-pub mod Machine
-pub mod Build
-pub mod Fits
 pub mod Plain
 pub mod Undated
 pub mod Laws
+pub mod inside

@@ -31,7 +31,8 @@ abbrev pub put_all : List (List ℕ × Datum) → List (List ℕ × Datum) → L
 put_all done [] = done
 put_all done (p ∷ ps) = put_all (put p.0 p.1 done) ps
 
--- the object of all the pairs of a text, in which a repeated key has the first one's place and the last one's value
+-- the object of all the pairs of a text: a repeated key has the first one's place and the last one's
+-- value
 abbrev pub object_of_fields : List (List ℕ × Datum) → Datum
 object_of_fields ps = object_of_pairs (put_all [] ps)
 
@@ -39,7 +40,8 @@ abbrev pub number_datum : Number → Datum
 number_datum (Int n) = integer n
 number_datum (Dec m) = decimal m
 
--- an integer where the numeral has neither point nor exponent, and else the nearest decimal; or it is out of bounds
+-- an integer where the numeral has neither point nor exponent, and else the nearest decimal; or it is
+-- out of bounds
 abbrev pub NumberGives : Numeral → Outcome Datum → Type 0
 NumberGives n (Ok x) = (a : Number) × Says n a × NumberInBounds a × (x ≡ number_datum a)
 NumberGives n (Err t) = (a : Number) × Says n a × (¬ NumberInBounds a) × (t ≡ number_out)
@@ -51,13 +53,21 @@ abbrev mutual
   Gives around (raw_boolean b) r = r ≡ Ok (boolean b)
   Gives around (raw_number n) r = NumberGives n r
   Gives around (raw_string cs) r = r ≡ Ok (text cs)
-  Gives around (raw_array vs) r = (s : Outcome (List Datum)) × AllGive (suc around) vs s × (r ≡ bracketed around array_of_list s)
-  Gives around (raw_object fs) r = (s : Outcome (List (List ℕ × Datum))) × FieldsGive (suc around) fs s × (r ≡ bracketed around object_of_fields s)
+  Gives around (raw_array vs) r =
+      (s : Outcome (List Datum))
+      × AllGive (suc around) vs s × (r ≡ bracketed around array_of_list s)
+  Gives around (raw_object fs) r =
+      (s : Outcome (List (List ℕ × Datum)))
+      × FieldsGive (suc around) fs s × (r ≡ bracketed around object_of_fields s)
 
   pub AllGive : ℕ → Raws → Outcome (List Datum) → Type 0
   AllGive around no_raws r = r ≡ Ok []
-  AllGive around (raw_value v vs) r = (x : Outcome Datum) × (s : Outcome (List Datum)) × Gives around v x × AllGive around vs s × (r ≡ together (λ y ys. y ∷ ys) x s)
+  AllGive around (raw_value v vs) r =
+      (x : Outcome Datum) × (s : Outcome (List Datum))
+      × Gives around v x × AllGive around vs s × (r ≡ together (λ y ys. y ∷ ys) x s)
 
   pub FieldsGive : ℕ → Fields → Outcome (List (List ℕ × Datum)) → Type 0
   FieldsGive around no_fields r = r ≡ Ok []
-  FieldsGive around (field k v fs) r = (x : Outcome Datum) × (s : Outcome (List (List ℕ × Datum))) × Gives around v x × FieldsGive around fs s × (r ≡ together (λ y ps. (k, y) ∷ ps) x s)
+  FieldsGive around (field k v fs) r =
+      (x : Outcome Datum) × (s : Outcome (List (List ℕ × Datum)))
+      × Gives around v x × FieldsGive around fs s × (r ≡ together (λ y ps. (k, y) ∷ ps) x s)

@@ -2,7 +2,8 @@
 use Rattle.std.specs.Prelude.{ℕ, Bool, List}
 use Rattle.num_fixed.specs.Numeral.{Numeral}
 
--- a number keeps its sign, its digits, its fraction and its exponent; a string is the list of its characters' codes; an object keeps all its pairs in text order
+-- a number keeps its sign, its digits, its fraction and its exponent; a string is the list of its
+-- characters' codes; an object keeps all its pairs in text order
 mutual
   pub data Raw : Type 0 where
     raw_null : Raw

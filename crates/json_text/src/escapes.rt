@@ -3,8 +3,8 @@
 ghost use Rattle.std.specs.Prelude.{◌≡◌, ◌<◌, ◌≤◌, ◌++◌, true, suc, length, ◌∷◌, Some, None, IfSome, IfNone, OnOk, OnErr, option_map, if◌then◌else◌};
 ghost use Rattle.std.specs.Char.{IsScalar, digit_value, is_digit, encode_utf8};
 ghost use Rattle.item_tree.specs.JsonString.{is_raw, short_escape, code_unit, is_high_half, is_low_half, lone_character, paired_character};
-ghost use Rattle.json_text.specs.Scan.{string_at};
-ghost use Rattle.json_text.specs.Escapes.{bytes_of, IsSound, Begins, digits_unit, low_half_at, other_half, unit_escape, long_escape, escape_of};
+ghost use Rattle.json_text.specs.inside.Scan.{string_at};
+ghost use Rattle.json_text.specs.Escapes.{bytes_of, IsSound, Begins, digits_unit, low_half_at, other_half, unit_at, long_escape, escape_of};
 
 use std::alloc::AllocError;
 
@@ -86,7 +86,8 @@ fn is_low_half(unit: u32) -> bool
 /// The escape of a low half at the front, and what is behind it.
 fn low_half_at(text: &[u8]) -> Option<(u32, &[u8])>
     ensures value { option_map (λ x. (x.0, x.1.now)) result ≡ low_half_at text.now }
-    ensures within { IfSome result (λ x. (is_low_half x.0 ≡ true) × (length x.1.now < length text.now)) }
+    ensures low { IfSome result (λ x. is_low_half x.0 ≡ true) }
+    ensures within { IfSome result (λ x. length x.1.now < length text.now) }
 {
     let [b'\\', b'u', digits @ ..] = text else {
         return None
@@ -137,7 +138,7 @@ fn other_half(unit: u32, rest: &[u8]) -> Option<(u32, &[u8])>
 /// The character of a unit, and what is behind it.
 fn unit_character(unit: u32, rest: &[u8]) -> (Spelled, &[u8])
     requires { unit < 65536 }
-    ensures value { Some (result.0, result.1.now) ≡ unit_escape unit rest.now (other_half unit rest.now) }
+    ensures value { Some (result.0, result.1.now) ≡ unit_at unit rest.now }
     ensures within { length result.1.now ≤ length rest.now }
     ensures sound { IsSound result.0 }
 {
@@ -174,8 +175,8 @@ fn escape_from(first: u8, rest: &[u8]) -> Option<(Spelled, &[u8])>
     }
 }
 
-/// What an escape stands for, and what is behind it, from what is behind its backslash; none where no
-/// escape is there. Half a surrogate pair without the other half is U+FFFD.
+/// What an escape stands for, and what is behind it, from what is behind its backslash; none where
+/// no escape is there. Half a surrogate pair without the other half is U+FFFD.
 pub fn escape_at(text: &[u8]) -> Option<(Spelled, &[u8])>
     ensures value { option_map (λ x. (x.0, x.1.now)) result ≡ escape_of text.now }
     // So in a string: what is behind is shorter, and what is spelled is a byte or a character.

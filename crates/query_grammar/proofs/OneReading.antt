@@ -6,7 +6,7 @@ use Rattle.num_fixed.specs.declared.number.Number.{Number}
 use Rattle.num_fixed.specs.declared.number.Number.TheVariants as number
 use Rattle.num_fixed.proofs.NumeralLemmas.{one_numeral, one_number_said}
 use Rattle.item_tree.specs.JsonString.{Piece, content, IsString}
-use Rattle.json_text.specs.Scan.{plain, pieces_at}
+use Rattle.json_text.specs.inside.Scan.{plain, pieces_at}
 use Rattle.json_text.proofs.StringLemmas.{string_taken}
 use Rattle.query_lexer.specs.declared.token.Token.{Token}
 use Rattle.query_lexer.specs.declared.token.TokenKind.{TokenKind}

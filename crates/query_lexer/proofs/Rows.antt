@@ -6,7 +6,7 @@ use Rattle.item_tree.specs.JsonString.{code_unit}
 use Rattle.item_tree.specs.declared.code.Code.{Code}
 use Rattle.item_tree.specs.declared.code.Code.TheVariants.{XPST0003, PJST0004}
 use Rattle.num_fixed.specs.Values.{near_natural, near, units_said}
-use Rattle.json_text.specs.Scan.{pieces_at}
+use Rattle.json_text.specs.inside.Scan.{pieces_at}
 use Rattle.query_lexer.specs.Bytes.{is_letter, is_name_byte, is_blank, is_mark, is_double_mark}
 use Rattle.query_lexer.specs.Comments.{opens, closes}
 use Rattle.query_lexer.specs.Lexes.{runs_on, goes, Stands, Tokens, Refused}

@@ -3,7 +3,7 @@ use Rattle.std.proofs.Common.{◌≡◌, inl, inr, ℕ, ◌-◌, ◌<◌, ◌≤
 use Rattle.std.proofs.lemmas.List.{take_at}
 use Rattle.std.proofs.lemmas.Bool.{and_from, cases_Bool, eqb-true, cond-false}
 use Rattle.item_tree.specs.JsonString.{Piece, byte, unit, IsPiece, ArePieces, is_raw}
-use Rattle.json_text.specs.Scan.{Part, plain, pieces_at, spell, string_at, after_bytes}
+use Rattle.json_text.specs.inside.Scan.{Part, plain, pieces_at, spell, string_at, after_bytes}
 use Rattle.json_text.proofs.SpellLemmas.{stretch_spelled, quote_spelled, control_spelled, end_spelled}
 use Rattle.json_text.proofs.NumeralLemmas.{PartIs}
 use Rattle.json_text.proofs.StringLemmas.{pieces_taken, pieces_are}

@@ -8,7 +8,7 @@ use Rattle.std.proofs.lemmas.Bool.Decides.{nat_tests}
 use Rattle.std.proofs.lemmas.List.{take_at, drop_at, get_or_at, take-append-drop, length-take-le}
 use Rattle.std.proofs.lemmas.Str.{IsUtf8-append, IsUtf8-take, IsUtf8-drop, IsUtf8-encode, IsCharBoundary-before_ascii, IsCharBoundary-after_ascii, IsUtf8-from_ascii, is_utf8-from_IsUtf8}
 use Rattle.item_tree.specs.JsonString.{Piece, byte, unit, short_escape, code_unit, IsPiece, ArePieces, content, is_high_half, is_low_half, lone_character, paired_character, IsString}
-use Rattle.json_text.specs.Scan.{spell, string_at}
+use Rattle.json_text.specs.inside.Scan.{spell, string_at}
 use Rattle.json_text.proofs.StringLemmas.{pieces_taken, string_is}
 use Rattle.query_lexer.specs.Lexes.{IsTokenOf, spelling}
 use Rattle.query_lexer.specs.Words.{Fits, IsText}

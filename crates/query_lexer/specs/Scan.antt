@@ -5,7 +5,7 @@ use Rattle.std.specs.List.{prefix_len}
 use Rattle.num_fixed.specs.Numeral.{none, Numeral}
 use Rattle.item_tree.specs.declared.code.Code.TheVariants.{XPST0003, PJST0004}
 use Rattle.num_fixed.specs.Values.{number_in_bounds, said}
-use Rattle.json_text.specs.Scan.{Part, string_at}
+use Rattle.json_text.specs.inside.Scan.{Part, string_at}
 use Rattle.query_lexer.specs.Bytes.{is_letter, is_name_byte, is_blank, is_sign, is_mark, is_double_mark, next_passes}
 use Rattle.query_lexer.specs.Comments.{begins_comment, comment_rest}
 use Rattle.query_lexer.specs.Lexes.{runs_on}

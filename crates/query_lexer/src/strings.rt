@@ -1,5 +1,5 @@
 ghost use Rattle.std.specs.Prelude.{◌≡◌, ◌<◌, ◌≤◌, length, [], ◌∷◌, Some, None, IfSome, IfNone, MatchOption};
-ghost use Rattle.json_text.specs.Scan.{string_at};
+ghost use Rattle.json_text.specs.inside.Scan.{string_at};
 ghost use Rattle.json_text.specs.Escapes.{Begins};
 ghost use Rattle.query_lexer.specs.Scan.{closed_at, string_length};
 

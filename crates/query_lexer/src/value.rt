@@ -1,6 +1,6 @@
 ghost use Rattle.std.specs.Prelude.{◌≡◌, [], IfOk, IfSome};
 ghost use Rattle.item_tree.specs.JsonString.{IsString};
-ghost use Rattle.json_text.specs.Scan.{string_at};
+ghost use Rattle.json_text.specs.inside.Scan.{string_at};
 ghost use Rattle.query_lexer.specs.Lexes.{IsTokenOf, spelling};
 ghost use Rattle.query_lexer.specs.declared.token.TokenKind.TheVariants.{Text};
 

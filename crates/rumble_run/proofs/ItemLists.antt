@@ -12,7 +12,7 @@ use Rattle.item_reader.specs.Lines.{Line, mark, cut, placed, unmarked, without_m
 use Rattle.item_reader.specs.Reading.{read_before}
 use Rattle.item_reader.specs.inside.Items.{items_of, items_of_lines}
 use Rattle.json_text.specs.Line.{blank, item, fault, is_blank}
-use Rattle.json_text.specs.Build.{reading}
+use Rattle.json_text.specs.inside.Build.{reading}
 use Rattle.item_tree.specs.declared.item.Item.{Item}
 use Rattle.item_tree.specs.Item.{datum, datums}
 use Rattle.rumble_run.specs.Cuts.{lines_of}

@@ -1,6 +1,6 @@
 -- The items of an input, computed: what an input reads as is the same, by `inputs_are_exact`.
 use Rattle.std.specs.Prelude.{ℕ, List, [], ◌∷◌, Ok}
-use Rattle.json_text.specs.Build.{reading}
+use Rattle.json_text.specs.inside.Build.{reading}
 use Rattle.item_reader.specs.Lines.{Line, lines}
 use Rattle.item_reader.specs.Reading.{Read, read_before}
 

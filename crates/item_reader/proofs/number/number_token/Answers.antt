@@ -1,8 +1,8 @@
 use Rattle.std.proofs.Common.{sym, subst, arith, refl}
 use Rattle.std.specs.Prelude.{[]}
 use Rattle.num_fixed.specs.Numeral.{Numeral, IsNumeral}
-use Rattle.json_text.specs.Scan.{Part}
-use Rattle.json_text.specs.Machine.{numeral_token}
+use Rattle.json_text.specs.inside.Scan.{Part}
+use Rattle.json_text.specs.inside.Machine.{numeral_token}
 use Rattle.item_reader.specs.Tokens.{IsPart}
 use Rattle.item_reader.proofs.NumberSteps.{taken_number}
 use Rattle.item_reader.proofs.number.number_token.Goals as goal

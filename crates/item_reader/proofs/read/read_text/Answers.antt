@@ -1,6 +1,6 @@
 use Rattle.std.proofs.Common.{◌<◌, sym, ◌∙◌, ap, subst, length}
-use Rattle.json_text.specs.Machine.{token_at, run}
-use Rattle.json_text.specs.Build.{outcome, made}
+use Rattle.json_text.specs.inside.Machine.{token_at, run}
+use Rattle.json_text.specs.inside.Build.{outcome, made}
 use Rattle.item_reader.specs.View.{build_of, mode_of, kinds_of}
 use Rattle.item_reader.specs.Turns.{IsTurnAt}
 use Rattle.item_reader.specs.declared.turn.Turn.TheVariants.{More, End, NotJson}

@@ -1,7 +1,7 @@
 use Rattle.std.proofs.Common.{◌≡◌, length}
-use Rattle.json_text.specs.Machine.{run}
-use Rattle.json_text.specs.Build.{outcome, made}
-use Rattle.json_text.specs.Fits.{BuildFits}
+use Rattle.json_text.specs.inside.Machine.{run}
+use Rattle.json_text.specs.inside.Build.{outcome, made}
+use Rattle.json_text.specs.inside.Fits.{BuildFits}
 use Rattle.item_reader.specs.View.{build_of, mode_of, kinds_of}
 use Rattle.item_reader.proofs.read.read_text.Given as goal
 

@@ -2,8 +2,8 @@ use Rattle.std.proofs.Common.{◌≡◌, sym, ◌∙◌, ap, true}
 use Rattle.std.specs.Str.{chars, is_utf8}
 use Rattle.std.proofs.lemmas.Bool.{false≢true}
 use Rattle.std.proofs.lemmas.Str.{is_utf8-from_IsUtf8, IsUtf8-had}
-use Rattle.json_text.specs.Scan.{string_at}
-use Rattle.json_text.specs.Machine as m
+use Rattle.json_text.specs.inside.Scan.{string_at}
+use Rattle.json_text.specs.inside.Machine as m
 use Rattle.item_reader.proofs.StringSteps.{string_there, string_refused, no_utf8}
 use Rattle.item_reader.proofs.string.escaped_text.Goals as goal
 

@@ -2,8 +2,8 @@ use Rattle.std.proofs.Common.{sym, ◌∙◌, ap}
 use Rattle.std.specs.Prelude.{take, drop}
 use Rattle.std.specs.Str.{chars}
 use Rattle.std.proofs.lemmas.Str.{is_utf8-from_IsUtf8}
-use Rattle.json_text.specs.Scan.{string_at}
-use Rattle.json_text.specs.Machine as m
+use Rattle.json_text.specs.inside.Scan.{string_at}
+use Rattle.json_text.specs.inside.Machine as m
 use Rattle.item_reader.proofs.StringSteps.{plain, string_there}
 use Rattle.item_reader.proofs.string.plain_text.Goals as goal
 

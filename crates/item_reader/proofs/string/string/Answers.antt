@@ -1,6 +1,6 @@
 use Rattle.std.proofs.Common.{◌≡◌, ◌∷◌, None, sym, ◌∙◌, ap}
 use Rattle.item_tree.specs.JsonString.{is_raw}
-use Rattle.json_text.specs.Scan.{string_at, after_bytes}
+use Rattle.json_text.specs.inside.Scan.{string_at, after_bytes}
 use Rattle.json_text.proofs.SpellLemmas.{after_none}
 use Rattle.item_reader.specs.Tokens.{begins}
 use Rattle.item_reader.proofs.StringSteps.{stretch, stretch_ends, cut_off, closed, refused, escaped}

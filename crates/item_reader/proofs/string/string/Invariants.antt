@@ -1,5 +1,5 @@
 use Rattle.std.proofs.Common.{◌≡◌, length}
-use Rattle.json_text.specs.Scan.{string_at, after_bytes}
+use Rattle.json_text.specs.inside.Scan.{string_at, after_bytes}
 use Rattle.item_reader.proofs.string.string.Given as goal
 
 abbrev pub invariant-stretches : goal.invariant-stretches

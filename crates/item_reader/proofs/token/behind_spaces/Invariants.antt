@@ -1,5 +1,5 @@
 use Rattle.std.proofs.Common.{◌≡◌, length}
-use Rattle.json_text.specs.Machine.{token_at}
+use Rattle.json_text.specs.inside.Machine.{token_at}
 use Rattle.item_reader.proofs.token.behind_spaces.Given as goal
 
 abbrev pub invariant-loop-b : goal.invariant-loop-b

@@ -1,6 +1,6 @@
 use Rattle.std.proofs.Common.{sym, subst}
-use Rattle.json_text.specs.Scan.{numeral_at}
-use Rattle.json_text.specs.Machine.{numeral_token}
+use Rattle.json_text.specs.inside.Scan.{numeral_at}
+use Rattle.json_text.specs.inside.Machine.{numeral_token}
 use Rattle.item_reader.specs.Tokens.{IsPart}
 use Rattle.item_reader.proofs.TokenSteps.{from_number}
 use Rattle.item_reader.proofs.token.value_from.Goals as goal

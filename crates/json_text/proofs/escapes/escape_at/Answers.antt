@@ -1,5 +1,5 @@
 use Rattle.std.proofs.Common.{◌≡◌, ◌<◌, ◌≤◌, ◌∷◌, ℕ, List, Option, Some, None, length, sym, subst, IfSome, IfNone, arith}
-use Rattle.json_text.specs.Scan.{string_at}
+use Rattle.json_text.specs.inside.Scan.{string_at}
 use Rattle.json_text.specs.Escapes.{Begins}
 use Rattle.json_text.proofs.EscapeLemmas.{front_is, nothing_escaped, escape_begins, no_escape}
 use Rattle.json_text.proofs.escapes.escape_at.Goals as goal

@@ -1,5 +1,5 @@
 use Rattle.std.proofs.Common.{◌≡◌, sym, subst, IfSome, IfNone}
-use Rattle.json_text.specs.Scan.{string_at}
+use Rattle.json_text.specs.inside.Scan.{string_at}
 use Rattle.json_text.specs.Escapes.{Begins}
 use Rattle.json_text.proofs.EscapeLemmas.{front_is}
 use Rattle.query_lexer.specs.Scan.{closed_at}

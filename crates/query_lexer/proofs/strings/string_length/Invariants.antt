@@ -1,5 +1,5 @@
 use Rattle.std.proofs.Common.{◌≡◌, ◌≤◌, length}
-use Rattle.json_text.specs.Scan.{string_at}
+use Rattle.json_text.specs.inside.Scan.{string_at}
 use Rattle.query_lexer.specs.Scan.{behind}
 use Rattle.query_lexer.proofs.strings.string_length.Given as goal
 

@@ -1,5 +1,5 @@
 use Rattle.std.proofs.Common.{◌≡◌, length}
-use Rattle.json_text.specs.Scan.{string_at, after_bytes}
+use Rattle.json_text.specs.inside.Scan.{string_at, after_bytes}
 use Rattle.query_lexer.proofs.value.spelled_bytes.Given as goal
 
 abbrev pub invariant-loop-spelled : goal.invariant-loop-spelled

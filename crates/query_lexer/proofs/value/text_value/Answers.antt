@@ -2,7 +2,7 @@ use Rattle.std.proofs.Common.{◌≡◌, ◌+◌, sym, ◌∙◌, ap, subst, ari
 use Rattle.std.proofs.lemmas.List.{take_rest}
 use Rattle.std.specs.Str.{IsUtf8, chars}
 use Rattle.std.specs.String.{string_vec}
-use Rattle.json_text.specs.Scan.{string_at}
+use Rattle.json_text.specs.inside.Scan.{string_at}
 use Rattle.query_lexer.proofs.ValueLemmas.{token_valued, value_read, value_ok}
 use Rattle.query_lexer.proofs.value.text_value.Goals as goal
 

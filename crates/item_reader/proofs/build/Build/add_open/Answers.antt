@@ -2,7 +2,7 @@ use Rattle.std.proofs.Common.{◌≡◌, sym, ◌∙◌, ap, arith, length}
 use Rattle.std.specs.Prelude.{◌<◌}
 use Rattle.std.proofs.lemmas.Bool.Decides.{nat_tests}
 use Rattle.item_tree.specs.Item.{datum}
-use Rattle.json_text.specs.Build as b
+use Rattle.json_text.specs.inside.Build as b
 use Rattle.item_reader.specs.View.{frames_of}
 use Rattle.item_reader.proofs.Frames.{no_frames, nothing_long, frames_length, still_open, added}
 use Rattle.item_reader.proofs.build.Build.add_open.Goals as goal

@@ -1,5 +1,5 @@
 use Rattle.std.proofs.Common.{refl, sym, arith}
-use Rattle.json_text.specs.Build as b
+use Rattle.json_text.specs.inside.Build as b
 use Rattle.item_reader.specs.View.{frames_of}
 use Rattle.item_reader.proofs.Frames.{open_fits, popped_fits, none_there, one_closed, nothing_long}
 use Rattle.item_reader.proofs.build.Build.close.Goals as goal

@@ -1,5 +1,5 @@
 use Rattle.std.proofs.Common.{ap}
-use Rattle.json_text.specs.Build as b
+use Rattle.json_text.specs.inside.Build as b
 use Rattle.item_reader.proofs.Frames.{no_frames}
 use Rattle.item_reader.proofs.build.Build.new.Goals as goal
 

@@ -1,6 +1,6 @@
 use Rattle.std.proofs.Common.{◌≡◌, sym, ◌∙◌, ap, arith, length, ◌∷◌}
 use Rattle.std.specs.Prelude.{◌<◌, ◌≤◌}
-use Rattle.json_text.specs.Build as b
+use Rattle.json_text.specs.inside.Build as b
 use Rattle.item_reader.specs.View.{frame_of, frames_of}
 use Rattle.item_reader.proofs.Frames.{pushed, frames_length, frame_pushed, frame_refused, still_open, opened}
 use Rattle.item_reader.proofs.build.Build.open.Goals as goal

@@ -1,6 +1,6 @@
 use Rattle.std.proofs.Common.{◌≡◌, refl, sym, arith, length}
 use Rattle.std.proofs.lemmas.Bool.Decides.{nat_tests}
-use Rattle.json_text.specs.Build as b
+use Rattle.json_text.specs.inside.Build as b
 use Rattle.item_reader.proofs.Frames.{none_there, nothing_long}
 use Rattle.item_reader.proofs.build.Build.set_key.Goals as goal
 

@@ -1,5 +1,5 @@
 use Rattle.std.proofs.Common.{refl, sym, ◌∙◌, ap}
-use Rattle.json_text.specs.Machine as m
+use Rattle.json_text.specs.inside.Machine as m
 use Rattle.item_reader.proofs.Turning.{turn_bad}
 use Rattle.item_reader.proofs.turn.State.take_string.Goals as goal
 

@@ -1,5 +1,5 @@
 use Rattle.std.proofs.Common.{refl, sym, subst}
-use Rattle.json_text.specs.Machine as m
+use Rattle.json_text.specs.inside.Machine as m
 use Rattle.item_reader.specs.View.{mode_of}
 use Rattle.item_reader.specs.Turns.{IsTurn}
 use Rattle.item_reader.specs.declared.turn.Turn.TheVariants.{More}

@@ -1,10 +1,10 @@
--- How a reader goes through a text: token by token, with the kinds of the open brackets and no values. Nothing here is part of what a text is: `laws` says that it is the same.
+-- How a reader goes through a text: token by token, with the kinds of the open brackets.
 use Rattle.std.specs.Prelude.{ℕ, zero, suc, Bool, true, false, ◌==◌, List, [], ◌∷◌, length, Option, Some, None, option_map, codes, nat_eq, drop, if◌then◌else◌}
 use Rattle.std.specs.List.{starts_with}
 use Rattle.std.specs.Str.{chars, is_utf8}
 use Rattle.num_fixed.specs.Numeral.{Numeral}
 use Rattle.json_text.specs.Json.{is_space}
-use Rattle.json_text.specs.Scan.{Part, string_at, numeral_at}
+use Rattle.json_text.specs.inside.Scan.{Part, string_at, numeral_at}
 
 -- ---- tokens
 
@@ -66,7 +66,8 @@ pub data Event : Type 0 where
   a_number : Numeral → Event
   a_string : List ℕ → Event
 
--- what may come: a value, or, where the flag is set, the end of an array; a key, or, where it is set, the end of an object; the colon behind a key; what follows a value
+-- what may come: a value, or, where the flag is set, the end of an array; a key, or, where it is set,
+-- the end of an object; the colon behind a key; what follows a value
 pub data Mode : Type 0 where
   value : Bool → Mode
   key : Bool → Mode
@@ -84,7 +85,8 @@ Events = Option (List Event)
 abbrev pub emit : Event → Events → Events
 emit e r = option_map (λ es. e ∷ es) r
 
--- what a token does: there is no text; the text ends; or, with an event or without, it goes on with a mode and open brackets
+-- what a token does: there is no text; the text ends; or, with an event or without, it goes on with a
+-- mode and open brackets
 pub data Turn : Type 0 where
   stops : Turn
   ends : Turn

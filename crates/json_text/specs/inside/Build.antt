@@ -6,7 +6,7 @@ use Rattle.item_tree.specs.Datum.{Datum, null, boolean, text, array_of_list, obj
 use Rattle.item_tree.specs.declared.code.Code.TheVariants.{JNDY0021}
 use Rattle.json_text.specs.Meaning.{Trouble, number_out, too_deep, Outcome, put, number_datum}
 use Rattle.json_text.specs.Line.{Reading, blank, item, fault, code_of, is_blank}
-use Rattle.json_text.specs.Machine.{Event, opens_array, opens_object, closes, keyed, a_null, a_boolean, a_number, a_string, Events, value, run}
+use Rattle.json_text.specs.inside.Machine.{Event, opens_array, opens_object, closes, keyed, a_null, a_boolean, a_number, a_string, Events, value, run}
 
 -- ---- building
 

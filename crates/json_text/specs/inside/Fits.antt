@@ -1,7 +1,7 @@
--- What a reader that builds an item knows of it: no value is too deep, and the keys of each object differ.
+-- What a reader that builds an item knows of it: no value is too deep, and keys differ.
 use Rattle.std.specs.Prelude.{ℕ, ◌+◌, ◌<◌, ◌≤◌, List, [], ◌∷◌, length}
 use Rattle.item_tree.specs.Datum.{Datum, depth, KeysDiffer}
-use Rattle.json_text.specs.Build.{Frame, open_array, open_object, Build, building, done, troubled}
+use Rattle.json_text.specs.inside.Build.{Frame, open_array, open_object, Build, building, done, troubled}
 
 -- inside this many open brackets
 abbrev pub AllFit : ℕ → List Datum → Type 0

@@ -1,4 +1,4 @@
--- How a reader takes a number or a string from the front of a text. Nothing here is part of what a text is: `laws` says that it is the same.
+-- How a reader takes a number or a string from the front of a text.
 use Rattle.std.specs.Prelude.{ℕ, Bool, true, false, ◌||◌, not, ◌==◌, nat_lt, List, [], ◌∷◌, ◌++◌, length, Option, Some, None, option_map, if◌then◌else◌}
 use Rattle.std.specs.Char.{is_ascii_digit}
 use Rattle.num_fixed.specs.Numeral.{Sign, none, plus, minus, Numeral}
@@ -40,15 +40,21 @@ int_at l = if is_int (digits_at l).0 then Some (digits_at l) else None
 
 abbrev pub frac_at : List ℕ → Part (Option (List ℕ))
 frac_at [] = Some (None, [])
-frac_at (b ∷ l) = if b == 46 then option_map (λ p. (Some p.0, p.1)) (some_digits_at l) else Some (None, b ∷ l)
+frac_at (b ∷ l) =
+    if b == 46 then option_map (λ p. (Some p.0, p.1)) (some_digits_at l) else Some (None, b ∷ l)
 
 abbrev pub exp_at : List ℕ → Part (Option (Sign × List ℕ))
 exp_at [] = Some (None, [])
-exp_at (b ∷ l) = if b == 101 || b == 69 then option_map (λ p. (Some ((sign_at l).0, p.0), p.1)) (some_digits_at (sign_at l).1) else Some (None, b ∷ l)
+exp_at (b ∷ l) =
+    if b == 101 || b == 69 then option_map (λ p. (Some ((sign_at l).0, p.0), p.1)) (some_digits_at (sign_at l).1)
+    else Some (None, b ∷ l)
 
 unfoldable pub numeral_at : List ℕ → Part Numeral
 numeral_at l =
-    and_then (int_at (minus_at l).1) (λ ds r. and_then (frac_at r) (λ f r2. and_then (exp_at r2) (λ e r3. Some (record { sign = (minus_at l).0; int = ds; frac = f; exp = e }, r3))))
+    and_then (int_at (minus_at l).1) (λ ds r.
+    and_then (frac_at r) (λ f r2.
+    and_then (exp_at r2) (λ e r3.
+    Some (record { sign = (minus_at l).0; int = ds; frac = f; exp = e }, r3))))
 
 -- ---- strings
 
@@ -77,7 +83,8 @@ pieces_at plain (x ∷ l) =
     if x == 92 then pieces_at after_backslash l else
     if is_raw x then put_front (byte x) (pieces_at plain l) else None
 pieces_at after_backslash [] = None
-pieces_at after_backslash (x ∷ l) = if x == 117 then pieces_at after_u l else byte_front (short_escape x) (pieces_at plain l)
+pieces_at after_backslash (x ∷ l) =
+    if x == 117 then pieces_at after_u l else byte_front (short_escape x) (pieces_at plain l)
 pieces_at after_u [] = None
 pieces_at after_u (a ∷ []) = None
 pieces_at after_u (a ∷ b ∷ []) = None
