@@ -1,14 +1,22 @@
-ghost use Rattle.std.specs.Prelude.{◌≡◌, ◌≤◌, IfOk, IfSome, option_map};
+ghost use Rattle.std.specs.Prelude.{◌≡◌, ◌≤◌, IfOk, IfSome, option_map, vec_len};
 ghost use Rattle.std.specs.Str.{chars};
 ghost use Rattle.outside.specs.World.{file_of};
 ghost use Rattle.rumble_run.specs.Reads.{CausedBy, LeavesRead};
 
 use crate::status::Stop;
 use outside::{InputFile, Inputs, OpenFault};
-use std::alloc::Global;
+use std::alloc::{AllocError, Global};
 
 // How many bytes are asked for at once.
 const READ_SIZE: usize = 65_536;
+
+// So many bytes to read into.
+fn zeros(alloc: Global, count: usize) -> Result<Vec<u8>, AllocError>
+    ensures { IfOk result (λ v. vec_len v ≡ count) }
+{
+    let zeros = vec![in alloc; 0u8; count]?;
+    Ok(zeros)
+}
 
 // All bytes of a file. A read that gives none before the length ends the file there.
 fn read_whole<F: InputFile>(alloc: Global, file: &mut F) -> Result<Vec<u8>, Stop>
@@ -23,9 +31,10 @@ fn read_whole<F: InputFile>(alloc: Global, file: &mut F) -> Result<Vec<u8>, Stop
         return Err(Stop::NoMemory);
     };
     let mut bytes = Vec::with_capacity(alloc, room)?;
-    let mut buffer = vec![in alloc; 0u8; READ_SIZE]?;
+    let mut zeros = zeros(alloc, READ_SIZE)?;
+    let buffer = zeros.as_mut_slice();
     'reading: while (bytes.len() as u64) < length {
-        let Ok(count) = file.read_at(bytes.len() as u64, buffer.as_mut_slice()) else {
+        let Ok(count) = file.read_at(bytes.len() as u64, buffer) else {
             return Err(Stop::ReadFault);
         };
         if count == 0 {

@@ -7,7 +7,7 @@ invariant-reading g l = record {
   bytes : SoFar (g.F.InputFile.held l.fn.file) l.length l.bytes.items;
   held : g.F.InputFile.held l.file ≡ g.F.InputFile.held l.fn.file;
   steady : g.F.InputFile.faults l.file ≡ g.F.InputFile.faults l.fn.file;
-  room : length l.buffer.items ≡ 65536;
+  room : length l.buffer ≡ 65536;
 }
 
 abbrev pub decreases-reading : goal.decreases-reading
