@@ -12,6 +12,8 @@ mod depths;
 #[cfg(test)]
 mod functions;
 #[cfg(test)]
+mod keys;
+#[cfg(test)]
 mod made;
 #[cfg(test)]
 mod objects;

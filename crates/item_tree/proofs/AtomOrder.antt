@@ -10,7 +10,10 @@ use Rattle.std.proofs.lemmas.Map.Lookups.{exact_signed, exact_bytes}
 use Rattle.item_tree.specs.Datum.{Datum, null, boolean, integer, decimal, text, date, date_time, array, object, IsAtomic, is_null}
 use Rattle.item_tree.proofs.DateOrder.{date_exact, date_time_exact, date_cmp_total, date_time_cmp_total}
 use Rattle.item_tree.specs.Compare.{Atom, nothing, truth, number, string, day, moment, atom, order, order_if, compare_atoms, is_equal, same_keys, whole_units}
-use Rattle.item_tree.specs.Laws.{IsKey, KeysAreEquivalent, AtomicsAreOrdered, Class, nulls, booleans, numbers, strings, dates, date_times, class_of}
+use Rattle.item_tree.specs.declared.class.Class.{Class}
+use Rattle.item_tree.specs.declared.class.Class.TheVariants.{Null, Boolean, Number, Text, Date, DateTime}
+use Rattle.item_tree.specs.Classes.{class_of}
+use Rattle.item_tree.specs.Laws.{IsKey, KeysAreEquivalent, AtomicsAreOrdered}
 
 inside : (o p : Ordering) → Some o ≡ Some p → o ≡ p
 inside o p e = cc
@@ -269,12 +272,12 @@ atomic_right v (object ms) e = not_none (atom v) e
 
 class_of_atom : Option Atom → Option Class
 class_of_atom None = None
-class_of_atom (Some nothing) = Some nulls
-class_of_atom (Some (truth b)) = Some booleans
-class_of_atom (Some (number n)) = Some numbers
-class_of_atom (Some (string t)) = Some strings
-class_of_atom (Some (day d)) = Some dates
-class_of_atom (Some (moment t)) = Some date_times
+class_of_atom (Some nothing) = Some Null
+class_of_atom (Some (truth b)) = Some Boolean
+class_of_atom (Some (number n)) = Some Number
+class_of_atom (Some (string t)) = Some Text
+class_of_atom (Some (day d)) = Some Date
+class_of_atom (Some (moment t)) = Some DateTime
 
 class_is : (v : Datum) → class_of v ≡ class_of_atom (atom v)
 unfolding class_of_atom

@@ -20,3 +20,4 @@ mod DateOrder
 mod DayNumbers
 pub mod DateTexts
 mod DateRows
+mod KeyOrder

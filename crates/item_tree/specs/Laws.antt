@@ -6,6 +6,8 @@ use Rattle.item_tree.specs.Dates.{Date, IsDate, date_cmp, first_of_1970, day_num
 use Rattle.item_tree.specs.declared.functions.FnId.{FnId}
 use Rattle.item_tree.specs.Functions.{name_of, takes_arity, function_named}
 use Rattle.item_tree.specs.Datum.{Datum, null, boolean, integer, decimal, text, date, date_time, array, object, values, array_of_list, object_of_pairs, depth, Sound, AllSound, IsAtomic, is_null}
+use Rattle.item_tree.specs.declared.class.Class.{Class}
+use Rattle.item_tree.specs.Classes.{class_of}
 use Rattle.item_tree.specs.Compare.{atom, compare_atoms, is_equal, same_keys, equal, equal_lists}
 
 -- on the values with this property the test is an equivalence
@@ -31,25 +33,6 @@ SequencesAreEquivalent = IsEquivalenceOn (λ vs. AllSound (values vs)) equal_lis
 -- deep equality of atomics is their comparison
 abbrev pub AtomicsCompare : Type 0
 AtomicsCompare = (v w : Datum) → IsAtomic v → equal v w ≡ is_equal (compare_atoms v w)
-
-pub data Class : Type 0 where
-  nulls : Class
-  booleans : Class
-  numbers : Class
-  strings : Class
-  dates : Class
-  date_times : Class
-
-abbrev pub class_of : Datum → Option Class
-class_of null = Some nulls
-class_of (boolean b) = Some booleans
-class_of (integer n) = Some numbers
-class_of (decimal m) = Some numbers
-class_of (text t) = Some strings
-class_of (date d) = Some dates
-class_of (date_time t) = Some date_times
-class_of (array vs) = None
-class_of (object ms) = None
 
 -- a total order within each class, with null below all else; two other classes do not compare
 pub record AtomicsAreOrdered : Type 0 where

@@ -9,6 +9,8 @@ pub mod Falls
 pub mod Lookup
 pub mod Made
 pub mod Compare
+pub mod Classes
+pub mod Keys
 pub mod Truth
 pub mod Functions
 pub mod Laws

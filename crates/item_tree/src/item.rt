@@ -180,6 +180,7 @@ impl Item {
         ensures sound { Sound (datum self.now) }
         ensures within { result ≤ 128 }
     {
+        // A call of an atomic's method brings what always holds of it to the proof.
         match self {
             Item::Null | Item::Bool(_) => 0,
             Item::Int(n) => {

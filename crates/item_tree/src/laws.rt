@@ -2,6 +2,9 @@
 //! proof, and does nothing when it runs.
 
 ghost use Rattle.item_tree.specs.Laws.{KeysAreEquivalent, ItemsAreEquivalent, SequencesAreEquivalent, AtomicsCompare, AtomicsAreOrdered, DepthsAreKept, DaysAreNumbered, FunctionsAreFound};
+ghost use Rattle.item_tree.specs.Keys.{KeysAgree};
+
+use crate::Key;
 
 /// `same_key` is an equivalence on keys.
 pub fn keys_are_equivalent()
@@ -41,4 +44,9 @@ pub fn days_are_numbered()
 /// Each function is found by its name and each number of arguments that it takes, and by no other.
 pub fn functions_are_found()
     ensures { FunctionsAreFound }
+{}
+
+/// Keys are equal exactly where their atomics are, and stand in the order of their atomics.
+pub fn keys_agree()
+    ensures { KeysAgree ⟦<Key as PartialEq>⟧.eq ⟦<Key as Ord>⟧.cmp }
 {}

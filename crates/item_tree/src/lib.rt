@@ -2,6 +2,7 @@
 #![tactic(auto)]
 
 mod atom_text;
+mod class;
 mod code;
 mod compare;
 mod date;
@@ -10,6 +11,7 @@ mod decimal;
 mod fault;
 mod functions;
 mod item;
+mod key;
 pub mod laws;
 mod number;
 mod str_bytes;
@@ -17,6 +19,7 @@ mod text;
 mod truth;
 
 pub use atom_text::text_of;
+pub use class::Class;
 pub use code::Code;
 pub use compare::{cmp_atoms, deep_equal, same_key};
 pub use date::{Day, Moment};
@@ -25,6 +28,7 @@ pub use decimal::DecimalBuffer;
 pub use fault::{Fault, MakeFault, NoMemory, OpFault, Spot};
 pub use functions::FnId;
 pub use item::{Item, Items, PairList, Pairs, array_of, object_of, object_of_distinct};
+pub use key::{Key, key_of};
 pub use number::{Units, Whole};
 pub use text::Str;
 pub use truth::ebv;
