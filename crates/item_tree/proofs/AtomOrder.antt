@@ -8,7 +8,7 @@ use Rattle.std.specs.declared.cmp.Ordering.TheVariants.{Less, Equal, Greater}
 use Rattle.std.proofs.lemmas.Cmp.{tied_itself, int_cmp_total, nat_list_cmp_total}
 use Rattle.std.proofs.lemmas.Map.Lookups.{exact_signed, exact_bytes}
 use Rattle.item_tree.specs.Datum.{Datum, null, boolean, integer, decimal, text, date, date_time, array, object, IsAtomic, is_null}
-use Rattle.item_tree.proofs.DateOrder.{date_exact, date_time_exact, date_cmp_total, date_time_cmp_total}
+use Rattle.item_tree.specs.inside.DateOrder.{date_exact, date_time_exact, date_cmp_total, date_time_cmp_total}
 use Rattle.item_tree.specs.Compare.{Atom, nothing, truth, number, string, day, moment, atom, order, order_if, compare_atoms, is_equal, same_keys, whole_units}
 use Rattle.item_tree.specs.declared.class.Class.{Class}
 use Rattle.item_tree.specs.declared.class.Class.TheVariants.{Null, Boolean, Number, Text, Date, DateTime}

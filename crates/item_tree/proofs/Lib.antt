@@ -16,8 +16,8 @@ mod DecimalDigits
 mod ShortTexts
 mod StringRows
 mod TextRows
-mod DateOrder
 mod DayNumbers
 pub mod DateTexts
 mod DateRows
 mod KeyOrder
+mod SameValues

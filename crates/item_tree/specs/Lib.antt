@@ -11,6 +11,7 @@ pub mod Made
 pub mod Compare
 pub mod Classes
 pub mod Keys
+pub mod Sameness
 pub mod Truth
 pub mod Functions
 pub mod Laws

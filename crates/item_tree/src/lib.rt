@@ -14,6 +14,7 @@ mod item;
 mod key;
 pub mod laws;
 mod number;
+mod same;
 mod str_bytes;
 mod text;
 mod truth;
