@@ -639,8 +639,22 @@ class NestingWriter:
         sets = sorted({s for s in self.laws.sets.names.values() if re.search(rf"\b{s}\b m", laws)})
         used = sorted(set(re.findall(r"\(?\b(\w+-(?:law|inside)) w\b", laws)))
         classes = [c for c in CLASSES if re.search(rf"(?<![\w.]){c}(?![\w-])", laws)]
-        return NESTED.format(nodes=", ".join(f"{n}-depth" for n in nodes), depths=", ".join(depths), laws=laws,
+        head = NESTED.format(nodes=", ".join(f"{n}-depth" for n in nodes), depths=", ".join(depths), laws="\0",
                              used=", ".join(["language", "sets"] + sets + used), classes=", ".join(classes))
+        head, tail = head.split("\0")
+        lines = [used_only(line, head[head.index("module _"):] + laws + tail) for line in head.split("\n")]
+        return "\n".join(line for line in lines if line is not None) + laws + tail
+
+
+def used_only(line, text):
+    """An import of those names alone that the text uses, or none."""
+    m = re.fullmatch(r"(use \S+\.)\{(.*)\}", line)
+    if not m:
+        word = re.fullmatch(r"use \S+ as (\w+)", line)
+        return None if word and not re.search(rf"(?<![\w.]){word.group(1)}\.", text) else line
+    names = [n for n in m.group(2).split(", ")
+             if (n.startswith("◌") and n.strip("◌") in text) or re.search(rf"(?<![\w.'-]){re.escape(n)}(?![\w'-])", text)]
+    return f"{m.group(1)}{{{', '.join(names)}}}" if names else None
 
 
 def strip_all(text):

@@ -1,5 +1,5 @@
 -- What a module derives where so many forms may nest.
-use Rattle.std.proofs.Common.{◌≡◌, ◌≤◌, ◌⊎◌, ◌↔◌, inl, inr, ℕ, zero, suc, Bool, true, false, List, [], Ok, refl, arith}
+use Rattle.std.proofs.Common.{◌≡◌, ◌≤◌, ◌⊎◌, inl, inr, ℕ, zero, suc, Bool, true, false, List, [], Ok, refl, arith}
 use Rattle.grammar_parts.specs.Tokens.{never}
 use Rattle.grammar_parts.specs.Levels.{has_room, level}
 use Rattle.grammar_parts.proofs.Levels.{Ground}
@@ -12,8 +12,8 @@ use Rattle.query_grammar.specs.declared.word.Kind.{Kind}
 use Rattle.query_grammar.specs.declared.part.Part.{Part}
 use Rattle.query_grammar.specs.Nodes.{Tree, Module}
 use Rattle.query_grammar.specs.Grammar.{forms}
-use Rattle.query_grammar.specs.Texts.{part_of, max_nesting, Derives, DerivesWithin, DerivesWithoutBound}
-use Rattle.query_grammar.specs.Laws.{IsBoundedByNesting}
+use Rattle.query_grammar.specs.Texts.{part_of, max_nesting, DerivesWithin}
+use Rattle.query_grammar.specs.Laws.{IsBoundedByNesting, HasTreesInBounds}
 use Rattle.query_grammar.proofs.Depths.{tree_depth, module_depth}
 use Rattle.query_grammar.proofs.Productions.{language, sets, forms-law}
 use Rattle.query_grammar.proofs.Nested.{forms-counting, module_part-within}
@@ -65,5 +65,5 @@ bounded n k s t w h = elim (ordered n k) [
 pub bounded_by_nesting : (n : ℕ) (s : List Word) (t : Module) → IsBoundedByNesting n s t
 bounded_by_nesting n s t = (λ w. ((n, w), within n s t w), λ z. bounded n z.0.0 s t z.0.1 z.1)
 
-pub query_within : (s : List Word) (t : Module) → Derives s t → module_nesting t ≤ max_nesting
+pub query_within : (s : List Word) → HasTreesInBounds s
 query_within s t w = within max_nesting s t w

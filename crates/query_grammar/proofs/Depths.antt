@@ -1,11 +1,8 @@
 -- How deep the values of the grammar's parts are nested, what a node adds to its parts, and the counting of the ways to combine parts over words.
 use Rattle.std.proofs.Common.{◌≡◌, ◌+◌, ℕ, max, Bool, true, false, List, [], ◌∷◌, ◌++◌, Option, Some, None, Ok, Err, ◌≤◌, refl, sym, ap, ◌∙◌, arith}
-use Rattle.seq_types.specs.declared.types.Times.{Times}
 use Rattle.query_tree.specs.declared.names.Placed.{Placed}
-use Rattle.query_tree.specs.declared.names.TypeName.{TypeName}
 use Rattle.query_tree.specs.declared.operator.CompareOp.{CompareOp}
 use Rattle.query_tree.specs.declared.operator.SumOp.{SumOp}
-use Rattle.query_tree.specs.Plain as p
 use Rattle.query_tree.specs.Nesting.{nesting, form_nesting, operands_nesting, content_nesting, greatest, operand_nesting, term_nesting, factor_nesting, step_nesting, lookup_nesting, pair_nesting, clause_nesting, group_var_nesting, order_key_nesting, bind_nesting, case_nesting, type_case_nesting, catch_nesting, variable_nesting, function_nesting, module_nesting}
 use Rattle.query_tree.proofs.NestingLists.{greatest-append, clauses-nesting, trees-nesting, group_vars-nesting, order_keys-nesting, operands-nesting, terms-nesting, factors-nesting, binds-nesting, cases-nesting, type_cases-nesting, catches-nesting, pairs-nesting, steps-nesting}
 use Rattle.grammar_parts.specs.Tokens.{Class, never, over, sees}

@@ -4,7 +4,7 @@ use Rattle.std.proofs.Common.{◌≡◌, ℕ, true, false, refl, arith}
 use Rattle.query_tree.specs.Plain as p
 use Rattle.query_tree.specs.Nesting.{greatest}
 use Rattle.grammar_parts.specs.Tokens.{never}
-use Rattle.grammar_parts.proofs.Modes.{named, one_at, only_at, unless_at, mapped_at, alt_at, opt_at, seq_at, many_at}
+use Rattle.grammar_parts.proofs.Modes.{named, one_at, only_at, mapped_at, alt_at}
 use Rattle.grammar_parts.proofs.Levels.{Ground}
 use Rattle.grammar_parts.proofs.Counts.{Counts, of_any, mapped_counts, only_counts, unless_counts, alt_counts, opt_counts, seq_counts, form_counts}
 use Rattle.grammar_parts.proofs.Nested.{Higher, Counting, above, alt_nested, opt_nested, ahead_nested}

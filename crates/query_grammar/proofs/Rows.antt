@@ -1,6 +1,6 @@
 -- What some queries are read as: a row for each production, and for the precedence and the
 -- associativity of the operators. The tokens of a row have the places 0, 1, 2 and so on.
-use Rattle.std.proofs.Common.{◌≡◌, ◌+◌, ℕ, pos, Bool, true, false, List, [], ◌∷◌, Option, Some, None, Ok, codes, refl}
+use Rattle.std.proofs.Common.{◌≡◌, ◌+◌, ℕ, pos, Bool, true, false, List, [], ◌∷◌, Some, None, Ok, codes, refl}
 use Rattle.seq_types.specs.declared.types.Times.{Times}
 use Rattle.seq_types.specs.declared.types.Times.TheVariants as times
 use Rattle.query_tree.specs.declared.names.Placed.{Placed}

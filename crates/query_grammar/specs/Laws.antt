@@ -6,25 +6,37 @@ use Rattle.query_grammar.specs.declared.word.Word.{Word}
 use Rattle.query_grammar.specs.Nodes.{Module}
 use Rattle.query_grammar.specs.Words.{AreWords}
 use Rattle.query_tree.specs.Nesting.{module_nesting}
-use Rattle.query_grammar.specs.Texts.{Derives, DerivesWithin, DerivesWithoutBound, IsRefused}
+use Rattle.query_grammar.specs.Texts.{Derives, DerivesWithin, DerivesWithoutBound, IsRefused, max_nesting}
 
 abbrev pub HasOneTree : List Word → Type 0
 HasOneTree words = (tree other : Module) → Derives words tree → Derives words other → tree ≡ other
 
 abbrev pub IsDecided : List Word → ℕ → Type 0
-IsDecided words end = ((tree : Module) × Derives words tree) ⊎ ((code : Code) × (place : ℕ) × IsRefused words end code place)
+IsDecided words end =
+    ((tree : Module) × Derives words tree)
+    ⊎ ((code : Code) × (place : ℕ) × IsRefused words end code place)
 
 abbrev pub HasOneRefusal : List Word → ℕ → Type 0
-HasOneRefusal words end = (code other : Code) (place elsewhere : ℕ) → IsRefused words end code place → IsRefused words end other elsewhere → (code ≡ other) × (place ≡ elsewhere)
+HasOneRefusal words end =
+    (code other : Code) (place elsewhere : ℕ) → IsRefused words end code place
+    → IsRefused words end other elsewhere → (code ≡ other) × (place ≡ elsewhere)
 
 abbrev pub IsNeverBoth : List Word → ℕ → Type 0
-IsNeverBoth words end = (tree : Module) (code : Code) (place : ℕ) → Derives words tree → IsRefused words end code place → ⊥
+IsNeverBoth words end =
+    (tree : Module) (code : Code) (place : ℕ) → Derives words tree
+    → IsRefused words end code place → ⊥
 
 abbrev pub HasOneReading : List ℕ → List Token → Type 0
-HasOneReading text tokens = (words others : List Word) → AreWords text tokens words → AreWords text tokens others → words ≡ others
+HasOneReading text tokens =
+    (words others : List Word) → AreWords text tokens words → AreWords text tokens others
+    → words ≡ others
 
 -- Where at most n forms may nest, the words derive exactly the trees that they derive without a
 -- bound and that are nested no deeper than n.
 abbrev pub IsBoundedByNesting : ℕ → List Word → Module → Type 0
 IsBoundedByNesting n words tree =
     DerivesWithin n words tree ↔ (DerivesWithoutBound words tree × (module_nesting tree ≤ n))
+
+-- The expressions of a query are nested no deeper than the bound.
+abbrev pub HasTreesInBounds : List Word → Type 0
+HasTreesInBounds words = (tree : Module) → Derives words tree → module_nesting tree ≤ max_nesting

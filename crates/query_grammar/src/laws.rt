@@ -1,13 +1,11 @@
 //! Laws of the grammar. Each holds of all lists of words: a call brings it to a proof, and does
 //! nothing when it runs.
 
-ghost use Rattle.std.specs.Prelude.{◌≤◌, ℕ, List};
-ghost use Rattle.query_tree.specs.Nesting.{module_nesting};
+ghost use Rattle.std.specs.Prelude.{ℕ, List};
 ghost use Rattle.query_lexer.specs.declared.token.Token.{Token};
 ghost use Rattle.query_grammar.specs.declared.word.Word.{Word};
 ghost use Rattle.query_grammar.specs.Nodes.{Module};
-ghost use Rattle.query_grammar.specs.Texts.{Derives, max_nesting};
-ghost use Rattle.query_grammar.specs.Laws.{HasOneTree, IsDecided, HasOneRefusal, IsNeverBoth, HasOneReading, IsBoundedByNesting};
+ghost use Rattle.query_grammar.specs.Laws.{HasOneTree, IsDecided, HasOneRefusal, IsNeverBoth, HasOneReading, IsBoundedByNesting, HasTreesInBounds};
 
 /// A list of words derives at most one tree.
 pub fn one_tree()
@@ -27,10 +25,10 @@ pub fn one_reading()
     ensures { (text : List ℕ) → (tokens : List Token) → HasOneReading text tokens }
 {}
 
-/// The bound of the grammar is one on the nesting of trees: where at most `n` forms may nest, a list
-/// of words derives exactly the trees that it derives without a bound and that are nested no deeper.
-/// So the expressions of a query are nested no deeper than the language's bound.
+/// The bound of the grammar is one on the nesting of trees: where at most `n` forms may nest, a
+/// list of words derives exactly the trees that it derives without a bound and that are nested no
+/// deeper. So the expressions of a query are nested no deeper than the language's bound.
 pub fn nesting_is_bounded()
-    ensures each { (n : ℕ) → (words : List Word) → (tree : Module) → IsBoundedByNesting n words tree }
-    ensures query { (words : List Word) → (t : Module) → Derives words t → module_nesting t ≤ max_nesting }
+    ensures each { (n : ℕ) → (words : List Word) → (t : Module) → IsBoundedByNesting n words t }
+    ensures query { (words : List Word) → HasTreesInBounds words }
 {}
