@@ -12,6 +12,8 @@ enum Answer<'a> {
     /// In units of 10^-6.
     Dec(i128),
     Text(&'a str),
+    /// No line gives a date or a date-time.
+    Dated,
     Array(usize),
     Object(usize),
     Fault(LineFault),
@@ -31,6 +33,7 @@ fn answer_of(read: &Result<Option<Item>, LineFault>) -> Answer<'_> {
         Ok(Some(Item::Int(n))) => Answer::Int(n.get()),
         Ok(Some(Item::Dec(m))) => Answer::Dec(m.get()),
         Ok(Some(Item::Text(text))) => Answer::Text(text.as_str()),
+        Ok(Some(Item::Date(_) | Item::DateTime(_))) => Answer::Dated,
         Ok(Some(Item::Array(items))) => Answer::Array(items.as_slice().len()),
         Ok(Some(Item::Object(pairs))) => Answer::Object(pairs.as_slice().len()),
         Err(fault) => Answer::Fault(*fault),

@@ -12,7 +12,7 @@ use crate::items::read_items;
 use crate::mark::without_mark;
 use crate::read::read_named;
 use crate::status::Stop;
-use crate::texts::{accepts, prints, tells_error, tells_no_query, tells_refusal, tells_usage};
+use crate::telling::{accepts, prints, tells_error, tells_no_query, tells_refusal, tells_usage};
 use crate::words::{Task, command_of};
 use expression_parser::gather::discard;
 use item_tree::{Code, Fault, Str};
@@ -40,7 +40,12 @@ fn of_input(alloc: Global, text: &[u8], place: u32, input: Option<Vec<u8>>) -> R
             }
         }
     };
-    Ok(tells_error(alloc, text, &Fault::at(code, place))?)
+    let fault = Fault {
+        code,
+        place,
+        spot: None,
+    };
+    Ok(tells_error(alloc, text, &fault)?)
 }
 
 // What a query comes to that is run over its inputs.
@@ -56,7 +61,12 @@ fn of_run<I: Inputs>(
     ensures counts { LeavesRun result (I.counts inputs.old) (I.counts inputs.new) }
 {
     let Some((name, place)) = input_of(query) else {
-        return Ok(tells_refusal(alloc, text, &Fault::at(Code::PJST0099, 0))?);
+        let fault = Fault {
+            code: Code::PJST0099,
+            place: 0,
+            spot: None,
+        };
+        return Ok(tells_refusal(alloc, text, &fault)?);
     };
     let input = read_named(alloc, inputs, name.as_str())?;
     let ending = of_input(alloc, text, place, input)?;

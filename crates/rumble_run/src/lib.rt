@@ -22,9 +22,9 @@ mod read;
 #[cfg(test)]
 mod rule_tests;
 mod status;
+mod telling;
 #[cfg(test)]
 mod tests;
-mod texts;
 mod words;
 
 use crate::decide::decide;
