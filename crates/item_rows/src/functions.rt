@@ -16,7 +16,7 @@ fn finds_functions_of_one_argument(rt: HostRuntime) {
         one-or-more exactly-one keys values members size flatten descendant-objects \
         descendant-arrays accumulate abs floor ceiling round round-half-to-even sum avg \
         min max string string-length normalize-space tokenize string-to-codepoints \
-        serialize parse-json";
+        serialize parse-json year-from-date month-from-date day-from-date";
     let ids = [
         FnId::Count,
         FnId::Empty,
@@ -53,6 +53,9 @@ fn finds_functions_of_one_argument(rt: HostRuntime) {
         FnId::StringToCodepoints,
         FnId::Serialize,
         FnId::ParseJson,
+        FnId::YearFromDate,
+        FnId::MonthFromDate,
+        FnId::DayFromDate,
     ];
     for (name, id) in names.split(' ').zip(ids) {
         assert_eq!(rt; found(name), only(1, id), "{name}");
@@ -63,7 +66,7 @@ fn finds_functions_of_one_argument(rt: HostRuntime) {
 #[test]
 fn finds_functions_of_other_arities(rt: HostRuntime) {
     let names = "remove index-of deep-equal project remove-keys contains starts-with ends-with \
-        substring-before substring-after";
+        substring-before substring-after add-days days-between";
     let ids = [
         FnId::Remove,
         FnId::IndexOf,
@@ -75,6 +78,8 @@ fn finds_functions_of_other_arities(rt: HostRuntime) {
         FnId::EndsWith,
         FnId::SubstringBefore,
         FnId::SubstringAfter,
+        FnId::AddDays,
+        FnId::DaysBetween,
     ];
     for (name, id) in names.split(' ').zip(ids) {
         assert_eq!(rt; found(name), only(2, id), "{name}");

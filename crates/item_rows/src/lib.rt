@@ -1,10 +1,12 @@
-//! Items as another crate sees them. It has tests alone.
+//! Tests of item_tree, whose items they see as another crate does. There is nothing else in this crate.
 #![tactic(auto)]
 
 #[cfg(test)]
 mod boolean_values;
 #[cfg(test)]
 mod comparisons;
+#[cfg(test)]
+mod dates;
 #[cfg(test)]
 mod deep_equality;
 #[cfg(test)]
