@@ -7,9 +7,11 @@ use item_tree::{
 };
 use std::alloc::Global;
 use std::collections::HashMap;
+use std::process::Abort;
 use std::test::Fail;
 
 // An atomic with its key, and its rank in the order of keys, which equal ones share.
+#[derive(Drop)]
 struct Row {
     item: Item,
     key: Key,
@@ -17,7 +19,7 @@ struct Row {
     rank: u8,
 }
 
-fn row(item: Item, class: Class, rank: u8) -> Result<Row, Fail>
+fn keyed(item: Item, class: Class, rank: u8) -> Result<Row, Fail>
     requires { IsAtomic (datum item) }
 {
     let key = key_of(&item)?;
@@ -30,42 +32,42 @@ fn row(item: Item, class: Class, rank: u8) -> Result<Row, Fail>
 }
 
 fn text_row(alloc: Global, text: &str, rank: u8) -> Result<Row, Fail> {
-    row(Item::Text(Str::of(alloc, text)?), Class::Text, rank)
+    keyed(Item::Text(Str::of(alloc, text)?), Class::Text, rank)
 }
 
 // One or more atomics of each class.
 fn rows(alloc: Global, days: (Day, Day)) -> Result<Vec<Row>, Fail> {
     let mut rows = vec![in alloc;
-        row(Item::Null, Class::Null, 0)?,
-        row(Item::Bool(false), Class::Boolean, 1)?,
-        row(Item::Bool(true), Class::Boolean, 2)?,
-        row(Item::Int(Whole::new(-1)), Class::Number, 3)?,
-        row(Item::Dec(Units::new(-1)), Class::Number, 4)?,
-        row(Item::Int(Whole::new(1)), Class::Number, 5)?,
-        row(Item::Dec(Units::new(1_000_000)), Class::Number, 5)?,
-        row(Item::Dec(Units::new(1_000_001)), Class::Number, 6)?,
+        keyed(Item::Null, Class::Null, 0)?,
+        keyed(Item::Bool(false), Class::Boolean, 1)?,
+        keyed(Item::Bool(true), Class::Boolean, 2)?,
+        keyed(Item::Int(Whole::new(-1)), Class::Number, 3)?,
+        keyed(Item::Dec(Units::new(-1)), Class::Number, 4)?,
+        keyed(Item::Int(Whole::new(1)), Class::Number, 5)?,
+        keyed(Item::Dec(Units::new(1_000_000)), Class::Number, 5)?,
+        keyed(Item::Dec(Units::new(1_000_001)), Class::Number, 6)?,
     ]?;
     rows.push(text_row(alloc, "", 7)?)?;
     rows.push(text_row(alloc, "1", 8)?)?;
     rows.push(text_row(alloc, "2000-02-29 and more", 9)?)?;
     rows.push(text_row(alloc, "true", 10)?)?;
-    rows.push(row(Item::Date(days.0), Class::Date, 11)?)?;
-    rows.push(row(Item::Date(days.1), Class::Date, 12)?)?;
-    rows.push(row(Item::DateTime(Moment::new(days.0, 0)), Class::DateTime, 13)?)?;
-    rows.push(row(Item::DateTime(Moment::new(days.0, 1)), Class::DateTime, 14)?)?;
-    rows.push(row(Item::DateTime(Moment::new(days.1, 0)), Class::DateTime, 15)?)?;
+    rows.push(keyed(Item::Date(days.0), Class::Date, 11)?)?;
+    rows.push(keyed(Item::Date(days.1), Class::Date, 12)?)?;
+    rows.push(keyed(Item::DateTime(Moment::new(days.0, 0)), Class::DateTime, 13)?)?;
+    rows.push(keyed(Item::DateTime(Moment::new(days.0, 1)), Class::DateTime, 14)?)?;
+    rows.push(keyed(Item::DateTime(Moment::new(days.1, 0)), Class::DateTime, 15)?)?;
     Ok(rows)
 }
 
-fn dated_rows(rt: &HostRuntime) -> Result<Vec<Row>, Fail> {
+fn dated_rows<R: Abort>(rt: &R, alloc: Global) -> Result<Vec<Row>, Fail> {
     let first = Day::new(2000, 2, 29).expect(rt, "a leap day");
     let second = Day::new(2000, 3, 1).expect(rt, "a day");
-    rows(rt.alloc(), (first, second))
+    rows(alloc, (first, second))
 }
 
 #[test]
 fn keys_of_all_pairs(rt: HostRuntime) -> Result<(), Fail> {
-    let rows = dated_rows(&rt)?;
+    let rows = dated_rows(&rt, rt.alloc())?;
     for a in &rows {
         assert_eq!(rt; a.item.class(), Some(a.class));
         assert!(rt; a.key.clone()? == a.key);
@@ -87,7 +89,7 @@ fn keys_of_all_pairs(rt: HostRuntime) -> Result<(), Fail> {
 #[test]
 fn groups_by_keys(rt: HostRuntime) -> Result<(), Fail> {
     let mut table = HashMap::new(rt.alloc());
-    for row in dated_rows(&rt)? {
+    for row in dated_rows(&rt, rt.alloc())? {
         let rank = row.rank;
         match table.insert(row.key, rank)? {
             None => {}
