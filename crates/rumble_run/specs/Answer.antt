@@ -45,9 +45,12 @@ abbrev pub refused : List ℕ → Fault → Answer
 refused text fault = says Refused (codes "refused " ++ fault_text text fault)
 
 -- the clause and the tuple of a FLWOR expression that a fault left, after one space
+abbrev pub clause_text : Spot → List ℕ
+clause_text s = (codes " clause " ++ decimal s.clause) ++ (codes " tuple " ++ decimal s.tuple)
+
 abbrev pub spot_text : Option Spot → List ℕ
 spot_text None = []
-spot_text (Some s) = codes " clause " ++ decimal s.clause ++ codes " tuple " ++ decimal s.tuple
+spot_text (Some s) = clause_text s
 
 abbrev pub raised : List ℕ → Fault → Answer
 raised text fault = says Raised (codes "raised " ++ fault_text text fault ++ spot_text fault.spot)

@@ -1,9 +1,10 @@
 //! Endings, by what they tell or write.
 
 ghost use Rattle.std.specs.Prelude.{◌≡◌, [], ◌++◌, IfOk, codes, string_bytes};
+ghost use Rattle.std.specs.Fmt.{decimal};
 ghost use Rattle.std.specs.Str.{encode_utf8_all};
 ghost use Rattle.item_tree.specs.Item.{datums};
-ghost use Rattle.rumble_run.specs.Answer.{says, writes, prints, refused, raised, fault_text, spot_text, accepted, usage};
+ghost use Rattle.rumble_run.specs.Answer.{says, writes, prints, refused, raised, fault_text, clause_text, spot_text, accepted, usage};
 ghost use Rattle.rumble_run.specs.Seen.{answer_of};
 
 use crate::ending::Ending;
@@ -59,13 +60,30 @@ fn fault_text(alloc: Global, text: &[u8], fault: &Fault) -> Result<String, Alloc
     format!(in alloc; "{code} at {line}:{column}")
 }
 
+// A word and a number.
+fn numbered(alloc: Global, word: &str, n: u64) -> Result<String, AllocError>
+    ensures { IfOk result (λ s. string_bytes s ≡ word.now ++ decimal n) }
+{
+    format!(in alloc; "{word}{n}")
+}
+
+fn clause_text(alloc: Global, spot: Spot) -> Result<String, AllocError>
+    ensures { IfOk result (λ s. string_bytes s ≡ clause_text spot) }
+{
+    let clause = numbered(alloc, " clause ", u64::from(spot.clause))?;
+    let tuple = numbered(alloc, " tuple ", spot.tuple)?;
+    let clause = clause.as_str();
+    let tuple = tuple.as_str();
+    format!(in alloc; "{clause}{tuple}")
+}
+
 // The clause and the tuple that a fault left.
 fn spot_text(alloc: Global, spot: Option<Spot>) -> Result<String, AllocError>
     ensures { IfOk result (λ s. string_bytes s ≡ spot_text spot) }
 {
     match spot {
         None => Ok(String::new(alloc)),
-        Some(Spot { clause, tuple }) => format!(in alloc; " clause {clause} tuple {tuple}"),
+        Some(spot) => clause_text(alloc, spot),
     }
 }
 
