@@ -17,10 +17,17 @@ import itertools
 import re
 from pathlib import Path
 
+from layout import used_only
+
 TOP = Path(__file__).resolve().parent.parent / "crates" / "query_grammar"
 
 
 # ---- reading the grammar
+
+def joined(text):
+    """The text with each definition that is broken into lines on one line."""
+    return re.sub(r"\n {4,}(?=[^ -])", " ", text)
+
 
 def tokens_of(text):
     return re.findall(r"[()]|[^\s()]+", text)
@@ -101,7 +108,7 @@ MODES = list(itertools.product((False, True), repeat=3))  # wide, room, room ins
 
 class Grammar:
     def __init__(self):
-        text = (TOP / "specs" / "Grammar.antt").read_text()
+        text = joined((TOP / "specs" / "Grammar.antt").read_text())
         self.kinds = kinds()
         self.classes = classes(self.kinds)
         self.list = productions(text)
@@ -478,7 +485,7 @@ class NestingWriter:
         self.laws = laws
         self.g = laws.g
         laws.ground = " w"
-        self.body = whole_productions((TOP / "specs" / "Grammar.antt").read_text())
+        self.body = whole_productions(joined((TOP / "specs" / "Grammar.antt").read_text()))
         depths = (TOP / "proofs" / "Depths.antt").read_text()
         self.nodes = set(re.findall(r"^pub (\S+)-depth :", depths, re.M))
         self.lines = []
@@ -644,17 +651,6 @@ class NestingWriter:
         head, tail = head.split("\0")
         lines = [used_only(line, head[head.index("module _"):] + laws + tail) for line in head.split("\n")]
         return "\n".join(line for line in lines if line is not None) + laws + tail
-
-
-def used_only(line, text):
-    """An import of those names alone that the text uses, or none."""
-    m = re.fullmatch(r"(use \S+\.)\{(.*)\}", line)
-    if not m:
-        word = re.fullmatch(r"use \S+ as (\w+)", line)
-        return None if word and not re.search(rf"(?<![\w.]){word.group(1)}\.", text) else line
-    names = [n for n in m.group(2).split(", ")
-             if (n.startswith("◌") and n.strip("◌") in text) or re.search(rf"(?<![\w.'-]){re.escape(n)}(?![\w'-])", text)]
-    return f"{m.group(1)}{{{', '.join(names)}}}" if names else None
 
 
 def strip_all(text):

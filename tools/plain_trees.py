@@ -16,6 +16,8 @@ run of this script: tools/plain_trees.py
 import re
 from pathlib import Path
 
+from layout import broken, without_unused
+
 CRATE = Path(__file__).resolve().parent.parent / "crates/query_tree"
 HEAD = "-- Written by tools/plain_trees.py from the types of src/. Change those, and run it again.\n"
 
@@ -287,7 +289,7 @@ def write_plain():
     out.append("  maybe_tree_of (Some e) = one_tree (tree_of e.value)")
     for name in PARTS:
         out += part_values(name, value_of(name), "(Expr V F T)", False)
-    (CRATE / "specs/Plain.antt").write_text("\n".join(out) + "\n")
+    (CRATE / "specs/Plain.antt").write_text(broken(without_unused("\n".join(out) + "\n")))
 
 
 def part_values(name, of, held, layer):
@@ -337,7 +339,7 @@ def write_folds():
         out.append(f"  pub {word}_fold : (k : {name} V F T) (o : {name}-F V F T {TREES}) → out-{name} V F T k ≡ o → fold-{name} V F T {types} {steps} k ≡ {mapped}o)")
         out.append(f"  {word}_fold k o h = fold_out-{name} V F T {types} {steps} k ∙ ap (λ (x : {name}-F V F T {TREES}). {mapped}x)) h")
         out.append("")
-    (CRATE / "proofs/Folds.antt").write_text("\n".join(out).rstrip() + "\n")
+    (CRATE / "proofs/Folds.antt").write_text(without_unused("\n".join(out).rstrip() + "\n"))
 
 
 def one_map(made, fields):
@@ -454,7 +456,7 @@ def write_layers():
                 right = " ".join([made] + [atom(converted(k, f + "'", False)) for f, k in fields])
                 lemma(f"{of}-made", arguments, f"{of} V F T (roll-{name} V F T ({node}))", right, f"fold-roll-{name} V F T {CARRIERS} {steps} ({node})")
     out.append(f"pub ruleset layers = ({', '.join(rules)})")
-    (CRATE / "proofs/Layers.antt").write_text("\n".join(out) + "\n")
+    (CRATE / "proofs/Layers.antt").write_text(without_unused("\n".join(out) + "\n"))
 
 
 def main():

@@ -32,7 +32,8 @@ use Rattle.query_grammar.specs.Grammar as g
 use Rattle.query_grammar.specs.Grammar.{forms}
 
 -- the reader of a production where so many forms may nest
-abbrev pub reader : {A : Type 0} → (Mode → Inner Word inside.Part n.Tree → Part Word A) → Bool → ℕ → Reader Word A
+abbrev pub reader : {A : Type 0} → (Mode → Inner Word inside.Part n.Tree → Part Word A) → Bool → ℕ
+    → Reader Word A
 reader production wide depth = (at forms production wide depth).read
 
 -- an expression as it was read

@@ -1,5 +1,5 @@
-//! What is given up at a refusal, or for want of memory, is dropped here. These functions are generic,
-//! so that a check needs no proof of its own for each kind of tree that is dropped.
+//! What is given up at a refusal, or for want of memory, is dropped here. These functions are
+//! generic, so that a check needs no proof of its own for each kind of tree that is dropped.
 
 ghost use Rattle.std.specs.Prelude.{◌≡◌, Err, MatchResult};
 ghost use Rattle.grammar_parts.specs.declared.cursor.Stop.TheVariants.{NoMemory};
@@ -30,7 +30,8 @@ pub fn both_boxed<A: Drop, B: Drop>(
     first: A,
     second: B,
 ) -> Result<(Box<A>, Box<B>), Stop>
-    ensures { MatchResult result (λ z. (z.0.value ≡ first) × (z.1.value ≡ second)) (λ e. e ≡ NoMemory) }
+    ensures { MatchResult result (λ z. (z.0.value ≡ first) × (z.1.value ≡ second))
+        (λ e. e ≡ NoMemory) }
 {
     let first = Box::new(alloc, first)?;
     let second = Box::new(alloc, second)?;

@@ -1,4 +1,5 @@
-//! The nodes that productions make of their parts. An operator's level without an operator makes none.
+//! The nodes that productions make of their parts. An operator's level without an operator makes
+//! none.
 
 ghost use Rattle.std.specs.Prelude.{◌≡◌, MatchResult, Some};
 ghost use Rattle.grammar_parts.specs.declared.cursor.Stop.TheVariants.{NoMemory};
@@ -49,7 +50,9 @@ pub fn unused(word: &Word) -> NamedExpr
 
 #[tactic(auto, using(query_tree::proofs::Layers::layers))]
 fn text_kind(alloc: Global, word: &Word) -> Result<Kind<Str, Str, TypeName>, Stop>
-    ensures { MatchResult result (λ k. p.form_of n.Name n.Name TypeName k ≡ p.text_form (n.name_of word.now)) (λ e. e ≡ NoMemory) }
+    ensures { MatchResult result
+        (λ k. p.form_of n.Name n.Name TypeName k ≡ p.text_form (n.name_of word.now))
+        (λ e. e ≡ NoMemory) }
 {
     let value = name_of(alloc, word)?;
     Ok(Kind::Text { value })
@@ -57,7 +60,9 @@ fn text_kind(alloc: Global, word: &Word) -> Result<Kind<Str, Str, TypeName>, Sto
 
 #[tactic(auto, using(query_tree::proofs::Layers::layers))]
 fn variable_kind(alloc: Global, word: &Word) -> Result<Kind<Str, Str, TypeName>, Stop>
-    ensures { MatchResult result (λ k. p.form_of n.Name n.Name TypeName k ≡ p.var_form (n.name_of word.now)) (λ e. e ≡ NoMemory) }
+    ensures { MatchResult result
+        (λ k. p.form_of n.Name n.Name TypeName k ≡ p.var_form (n.name_of word.now))
+        (λ e. e ≡ NoMemory) }
 {
     let variable = name_of(alloc, word)?;
     Ok(Kind::Var { variable })
@@ -65,7 +70,9 @@ fn variable_kind(alloc: Global, word: &Word) -> Result<Kind<Str, Str, TypeName>,
 
 #[tactic(auto, using(query_tree::proofs::Layers::layers))]
 fn literal_kind(alloc: Global, word: &Word) -> Result<Kind<Str, Str, TypeName>, Stop>
-    ensures { MatchResult result (λ k. p.form_of n.Name n.Name TypeName k ≡ n.literal_form word.now.kind word.now.value) (λ e. e ≡ NoMemory) }
+    ensures { MatchResult result
+        (λ k. p.form_of n.Name n.Name TypeName k ≡ n.literal_form word.now.kind word.now.value)
+        (λ e. e ≡ NoMemory) }
 {
     match word.kind {
         Token::Int => Ok(Kind::Int {
@@ -97,7 +104,8 @@ pub fn literal(alloc: Global, word: &Word) -> Result<NamedExpr, Stop>
 
 #[tactic(auto, using(query_tree::proofs::Layers::layers))]
 pub fn call_of(alloc: Global, word: &Word, arguments: Vec<NamedExpr>) -> Result<NamedExpr, Stop>
-    ensures { MatchResult result (λ e. tree e ≡ n.call (word.now, view.trees arguments)) (λ e. e ≡ NoMemory) }
+    ensures { MatchResult result (λ e. tree e ≡ n.call (word.now, view.trees arguments))
+        (λ e. e ≡ NoMemory) }
 {
     match name_of(alloc, word) {
         Ok(function) => Ok(Expr {
@@ -112,21 +120,24 @@ pub fn call_of(alloc: Global, word: &Word, arguments: Vec<NamedExpr>) -> Result<
 }
 
 fn name_key(alloc: Global, word: &Word) -> Result<Lookup<Str, NamedExpr>, Stop>
-    ensures { MatchResult result (λ l. view.lookup l ≡ p.name_lookup (n.name_of word.now)) (λ e. e ≡ NoMemory) }
+    ensures { MatchResult result (λ l. view.lookup l ≡ p.name_lookup (n.name_of word.now))
+        (λ e. e ≡ NoMemory) }
 {
     let name = name_of(alloc, word)?;
     Ok(Lookup::Name { name })
 }
 
 fn text_key(alloc: Global, word: &Word) -> Result<Lookup<Str, NamedExpr>, Stop>
-    ensures { MatchResult result (λ l. view.lookup l ≡ p.text_lookup (n.name_of word.now)) (λ e. e ≡ NoMemory) }
+    ensures { MatchResult result (λ l. view.lookup l ≡ p.text_lookup (n.name_of word.now))
+        (λ e. e ≡ NoMemory) }
 {
     let value = name_of(alloc, word)?;
     Ok(Lookup::Text { value })
 }
 
 fn variable_key(alloc: Global, word: &Word) -> Result<Lookup<Str, NamedExpr>, Stop>
-    ensures { MatchResult result (λ l. view.lookup l ≡ p.var_lookup (n.placed word.now)) (λ e. e ≡ NoMemory) }
+    ensures { MatchResult result (λ l. view.lookup l ≡ p.var_lookup (n.placed word.now))
+        (λ e. e ≡ NoMemory) }
 {
     let variable = placed(alloc, word)?;
     Ok(Lookup::Var { variable })
@@ -149,7 +160,8 @@ pub fn postfix_of(
     primary: NamedExpr,
     steps: Vec<Step<Str, NamedExpr>>,
 ) -> Result<NamedExpr, Stop>
-    ensures { MatchResult result (λ e. tree e ≡ n.postfix (tree primary, view.steps steps)) (λ e. e ≡ NoMemory) }
+    ensures { MatchResult result (λ e. tree e ≡ n.postfix (tree primary, view.steps steps))
+        (λ e. e ≡ NoMemory) }
 {
     if steps.is_empty() {
         discard(steps);
@@ -169,7 +181,9 @@ fn chain_kind(
     first: Box<NamedExpr>,
     rest: Vec<Operand<NamedExpr>>,
 ) -> Kind<Str, Str, TypeName>
-    ensures { p.form_of n.Name n.Name TypeName result ≡ view.form_of_chain chain (tree first.value) (p.operands_of n.Name n.Name TypeName (view.operands rest)) }
+    ensures { p.form_of n.Name n.Name TypeName result
+        ≡ view.form_of_chain chain (tree first.value)
+        (p.operands_of n.Name n.Name TypeName (view.operands rest)) }
 {
     match chain {
         Chain::Comma => Kind::Comma { first, rest },
@@ -187,7 +201,9 @@ pub fn chained(
     first: NamedExpr,
     rest: Vec<Operand<NamedExpr>>,
 ) -> Result<NamedExpr, Stop>
-    ensures { MatchResult result (λ e. tree e ≡ n.chain (view.form_of_chain chain) (tree first, view.operands rest)) (λ e. e ≡ NoMemory) }
+    ensures { MatchResult result
+        (λ e. tree e ≡ n.chain (view.form_of_chain chain) (tree first, view.operands rest))
+        (λ e. e ≡ NoMemory) }
 {
     if rest.is_empty() {
         discard(rest);
@@ -215,7 +231,8 @@ pub fn sign_of(
     signs: Vec<(SumOp, u32)>,
     operand: NamedExpr,
 ) -> Result<NamedExpr, Stop>
-    ensures { MatchResult result (λ e. tree e ≡ n.sign (signs.items, tree operand)) (λ e. e ≡ NoMemory) }
+    ensures { MatchResult result (λ e. tree e ≡ n.sign (signs.items, tree operand))
+        (λ e. e ≡ NoMemory) }
 {
     let Some(place) = first_place(&signs) else {
         discard(signs);
@@ -235,7 +252,8 @@ fn test_kind(
     place: u32,
     to: Placed<TypeName>,
 ) -> Kind<Str, Str, TypeName>
-    ensures { p.form_of n.Name n.Name TypeName result ≡ view.form_of_test test (tree operand.value) place to }
+    ensures { p.form_of n.Name n.Name TypeName result
+        ≡ view.form_of_test test (tree operand.value) place to }
 {
     match test {
         TypeTest::Instance => Kind::Instance {
@@ -256,7 +274,9 @@ fn typed_node(
     place: u32,
     to: Placed<TypeName>,
 ) -> Result<NamedExpr, Stop>
-    ensures { MatchResult result (λ e. tree e ≡ n.node_at (tree operand) (view.form_of_test test (tree operand) place to)) (λ e. e ≡ NoMemory) }
+    ensures { MatchResult result
+        (λ e. tree e ≡ n.node_at (tree operand) (view.form_of_test test (tree operand) place to))
+        (λ e. e ≡ NoMemory) }
 {
     let first = operand.place;
     let (operand, to) = boxed_beside(alloc, operand, to)?;
@@ -273,7 +293,9 @@ pub fn typed(
     operand: NamedExpr,
     behind: Option<(u32, Placed<TypeName>)>,
 ) -> Result<NamedExpr, Stop>
-    ensures { MatchResult result (λ e. tree e ≡ n.typed (view.form_of_test test) (tree operand, behind)) (λ e. e ≡ NoMemory) }
+    ensures { MatchResult result
+        (λ e. tree e ≡ n.typed (view.form_of_test test) (tree operand, behind))
+        (λ e. e ≡ NoMemory) }
 {
     match behind {
         None => Ok(operand),
@@ -286,7 +308,8 @@ pub fn product_of(
     first: NamedExpr,
     rest: Vec<Factor<NamedExpr>>,
 ) -> Result<NamedExpr, Stop>
-    ensures { MatchResult result (λ e. tree e ≡ n.product (tree first, view.factors rest)) (λ e. e ≡ NoMemory) }
+    ensures { MatchResult result (λ e. tree e ≡ n.product (tree first, view.factors rest))
+        (λ e. e ≡ NoMemory) }
 {
     if rest.is_empty() {
         discard(rest);
@@ -305,7 +328,8 @@ pub fn sum_of(
     first: NamedExpr,
     rest: Vec<Term<NamedExpr>>,
 ) -> Result<NamedExpr, Stop>
-    ensures { MatchResult result (λ e. tree e ≡ n.sum (tree first, view.terms rest)) (λ e. e ≡ NoMemory) }
+    ensures { MatchResult result (λ e. tree e ≡ n.sum (tree first, view.terms rest))
+        (λ e. e ≡ NoMemory) }
 {
     if rest.is_empty() {
         discard(rest);
@@ -325,7 +349,9 @@ fn range_node(
     place: u32,
     right: NamedExpr,
 ) -> Result<NamedExpr, Stop>
-    ensures { MatchResult result (λ e. tree e ≡ n.node_at (tree left) (p.range_form (tree left) place (tree right))) (λ e. e ≡ NoMemory) }
+    ensures { MatchResult result
+        (λ e. tree e ≡ n.node_at (tree left) (p.range_form (tree left) place (tree right)))
+        (λ e. e ≡ NoMemory) }
 {
     let first = left.place;
     let (left, right) = both_boxed(alloc, left, right)?;
@@ -340,7 +366,8 @@ pub fn range_of(
     left: NamedExpr,
     end: Option<(u32, NamedExpr)>,
 ) -> Result<NamedExpr, Stop>
-    ensures { MatchResult result (λ e. tree e ≡ n.range (tree left, view.range_end end)) (λ e. e ≡ NoMemory) }
+    ensures { MatchResult result (λ e. tree e ≡ n.range (tree left, view.range_end end))
+        (λ e. e ≡ NoMemory) }
 {
     match end {
         None => Ok(left),
@@ -355,7 +382,9 @@ fn compare_node(
     place: u32,
     right: NamedExpr,
 ) -> Result<NamedExpr, Stop>
-    ensures { MatchResult result (λ e. tree e ≡ n.node_at (tree left) (p.compare_form (tree left) op place (tree right))) (λ e. e ≡ NoMemory) }
+    ensures { MatchResult result
+        (λ e. tree e ≡ n.node_at (tree left) (p.compare_form (tree left) op place (tree right)))
+        (λ e. e ≡ NoMemory) }
 {
     let first = left.place;
     let (left, right) = both_boxed(alloc, left, right)?;
@@ -375,7 +404,8 @@ pub fn compare_of(
     left: NamedExpr,
     comparison: Option<(CompareOp, u32, NamedExpr)>,
 ) -> Result<NamedExpr, Stop>
-    ensures { MatchResult result (λ e. tree e ≡ n.compare (tree left, view.comparison comparison)) (λ e. e ≡ NoMemory) }
+    ensures { MatchResult result (λ e. tree e ≡ n.compare (tree left, view.comparison comparison))
+        (λ e. e ≡ NoMemory) }
 {
     match comparison {
         None => Ok(left),

@@ -25,8 +25,11 @@ impl<F: Fn(Global, bool, usize, Part, &mut Cursor<'_, Word>) -> Result<NamedExpr
     /// `"!" Postfix`
     #[tactic(auto, unfolding(query_grammar::specs::Grammar::mapped_operand))]
     pub fn mapped_operand(&self, cursor: &mut Cursor<'_, Word>) -> Result<Operand<NamedExpr>, Stop>
-        requires { Nests forms tree self.now.wide self.now.depth (F.pre self.now.inner) (F.post self.now.inner) }
-        ensures { ReadsAs view.operand (reader g.mapped_operand self.now.wide self.now.depth cursor.old.rest.now) result cursor.new.rest.now }
+        requires { Nests forms tree self.now.wide self.now.depth (F.pre self.now.inner)
+            (F.post self.now.inner) }
+        ensures { ReadsAs view.operand
+            (reader g.mapped_operand self.now.wide self.now.depth cursor.old.rest.now) result
+            cursor.new.rest.now }
     {
         let place = cursor.expect(Kind::Bang)?.place;
         let value = self.postfix(cursor)?;
@@ -39,8 +42,11 @@ impl<F: Fn(Global, bool, usize, Part, &mut Cursor<'_, Word>) -> Result<NamedExpr
         &self,
         cursor: &mut Cursor<'_, Word>,
     ) -> Result<Vec<Operand<NamedExpr>>, Stop>
-        requires { Nests forms tree self.now.wide self.now.depth (F.pre self.now.inner) (F.post self.now.inner) }
-        ensures { ReadsAs view.operands (reader g.mapped_operands self.now.wide self.now.depth cursor.old.rest.now) result cursor.new.rest.now }
+        requires { Nests forms tree self.now.wide self.now.depth (F.pre self.now.inner)
+            (F.post self.now.inner) }
+        ensures { ReadsAs view.operands
+            (reader g.mapped_operands self.now.wide self.now.depth cursor.old.rest.now) result
+            cursor.new.rest.now }
     {
         repeat(self.alloc, Kind::Bang, |at| self.mapped_operand(at), cursor)
     }
@@ -48,8 +54,11 @@ impl<F: Fn(Global, bool, usize, Part, &mut Cursor<'_, Word>) -> Result<NamedExpr
     /// `Map`
     #[tactic(auto, unfolding(query_grammar::specs::Grammar::map_level))]
     pub fn map_level(&self, cursor: &mut Cursor<'_, Word>) -> Result<NamedExpr, Stop>
-        requires { Nests forms tree self.now.wide self.now.depth (F.pre self.now.inner) (F.post self.now.inner) }
-        ensures { ReadsAs tree (reader g.map_level self.now.wide self.now.depth cursor.old.rest.now) result cursor.new.rest.now }
+        requires { Nests forms tree self.now.wide self.now.depth (F.pre self.now.inner)
+            (F.post self.now.inner) }
+        ensures { ReadsAs tree
+            (reader g.map_level self.now.wide self.now.depth cursor.old.rest.now) result
+            cursor.new.rest.now }
     {
         let first = self.postfix(cursor)?;
         let rest = or_give_up!(first, self.mapped_operands(cursor));
@@ -59,8 +68,11 @@ impl<F: Fn(Global, bool, usize, Part, &mut Cursor<'_, Word>) -> Result<NamedExpr
     /// `"+" | "-"`
     #[tactic(auto, unfolding(query_grammar::specs::Grammar::sign_mark))]
     pub fn sign_mark(&self, cursor: &mut Cursor<'_, Word>) -> Result<(SumOp, u32), Stop>
-        requires { Nests forms tree self.now.wide self.now.depth (F.pre self.now.inner) (F.post self.now.inner) }
-        ensures { ReadsAs (λ x. x) (reader g.sign_mark self.now.wide self.now.depth cursor.old.rest.now) result cursor.new.rest.now }
+        requires { Nests forms tree self.now.wide self.now.depth (F.pre self.now.inner)
+            (F.post self.now.inner) }
+        ensures { ReadsAs (λ x. x)
+            (reader g.sign_mark self.now.wide self.now.depth cursor.old.rest.now) result
+            cursor.new.rest.now }
     {
         let mark = cursor.expect(Class::SumOp)?;
         Ok((sum_op(mark.kind), mark.place))
@@ -69,8 +81,11 @@ impl<F: Fn(Global, bool, usize, Part, &mut Cursor<'_, Word>) -> Result<NamedExpr
     /// `{ "+" | "-" }`
     #[tactic(auto, unfolding(query_grammar::specs::Grammar::sign_marks))]
     pub fn sign_marks(&self, cursor: &mut Cursor<'_, Word>) -> Result<Vec<(SumOp, u32)>, Stop>
-        requires { Nests forms tree self.now.wide self.now.depth (F.pre self.now.inner) (F.post self.now.inner) }
-        ensures { ReadsAs (λ v. v.items) (reader g.sign_marks self.now.wide self.now.depth cursor.old.rest.now) result cursor.new.rest.now }
+        requires { Nests forms tree self.now.wide self.now.depth (F.pre self.now.inner)
+            (F.post self.now.inner) }
+        ensures { ReadsAs (λ v. v.items)
+            (reader g.sign_marks self.now.wide self.now.depth cursor.old.rest.now) result
+            cursor.new.rest.now }
     {
         repeat(self.alloc, Class::SumOp, |at| self.sign_mark(at), cursor)
     }
@@ -78,8 +93,10 @@ impl<F: Fn(Global, bool, usize, Part, &mut Cursor<'_, Word>) -> Result<NamedExpr
     /// `Sign`
     #[tactic(auto, unfolding(query_grammar::specs::Grammar::sign))]
     pub fn sign(&self, cursor: &mut Cursor<'_, Word>) -> Result<NamedExpr, Stop>
-        requires { Nests forms tree self.now.wide self.now.depth (F.pre self.now.inner) (F.post self.now.inner) }
-        ensures { ReadsAs tree (reader g.sign self.now.wide self.now.depth cursor.old.rest.now) result cursor.new.rest.now }
+        requires { Nests forms tree self.now.wide self.now.depth (F.pre self.now.inner)
+            (F.post self.now.inner) }
+        ensures { ReadsAs tree (reader g.sign self.now.wide self.now.depth cursor.old.rest.now)
+            result cursor.new.rest.now }
     {
         let signs = self.sign_marks(cursor)?;
         let operand = or_give_up!(signs, self.map_level(cursor));
@@ -92,7 +109,8 @@ impl<F: Fn(Global, bool, usize, Part, &mut Cursor<'_, Word>) -> Result<NamedExpr
         word: Kind,
         cursor: &mut Cursor<'_, Word>,
     ) -> Result<Option<(u32, Placed<TypeName>)>, Stop>
-        ensures { ReadsAs (λ x. x) ((view.single_behind word).read cursor.old.rest.now) result cursor.new.rest.now }
+        ensures { ReadsAs (λ x. x) ((view.single_behind word).read cursor.old.rest.now) result
+            cursor.new.rest.now }
     {
         if !cursor.sees(word) {
             return Ok(None);
@@ -110,7 +128,8 @@ impl<F: Fn(Global, bool, usize, Part, &mut Cursor<'_, Word>) -> Result<NamedExpr
         second: Kind,
         cursor: &mut Cursor<'_, Word>,
     ) -> Result<Option<(u32, Placed<TypeName>)>, Stop>
-        ensures { ReadsAs (λ x. x) ((view.type_behind word second).read cursor.old.rest.now) result cursor.new.rest.now }
+        ensures { ReadsAs (λ x. x) ((view.type_behind word second).read cursor.old.rest.now)
+            result cursor.new.rest.now }
     {
         if !cursor.sees(word) {
             return Ok(None);
@@ -124,8 +143,10 @@ impl<F: Fn(Global, bool, usize, Part, &mut Cursor<'_, Word>) -> Result<NamedExpr
     /// `Cast`
     #[tactic(auto, unfolding(query_grammar::specs::Grammar::cast, query_grammar::specs::Grammar::cast_type))]
     pub fn cast(&self, cursor: &mut Cursor<'_, Word>) -> Result<NamedExpr, Stop>
-        requires { Nests forms tree self.now.wide self.now.depth (F.pre self.now.inner) (F.post self.now.inner) }
-        ensures { ReadsAs tree (reader g.cast self.now.wide self.now.depth cursor.old.rest.now) result cursor.new.rest.now }
+        requires { Nests forms tree self.now.wide self.now.depth (F.pre self.now.inner)
+            (F.post self.now.inner) }
+        ensures { ReadsAs tree (reader g.cast self.now.wide self.now.depth cursor.old.rest.now)
+            result cursor.new.rest.now }
     {
         let operand = self.sign(cursor)?;
         let to = or_give_up!(operand, self.single_behind(Kind::Cast, cursor));
@@ -135,8 +156,11 @@ impl<F: Fn(Global, bool, usize, Part, &mut Cursor<'_, Word>) -> Result<NamedExpr
     /// `Castable`
     #[tactic(auto, unfolding(query_grammar::specs::Grammar::castable, query_grammar::specs::Grammar::castable_type))]
     pub fn castable(&self, cursor: &mut Cursor<'_, Word>) -> Result<NamedExpr, Stop>
-        requires { Nests forms tree self.now.wide self.now.depth (F.pre self.now.inner) (F.post self.now.inner) }
-        ensures { ReadsAs tree (reader g.castable self.now.wide self.now.depth cursor.old.rest.now) result cursor.new.rest.now }
+        requires { Nests forms tree self.now.wide self.now.depth (F.pre self.now.inner)
+            (F.post self.now.inner) }
+        ensures { ReadsAs tree
+            (reader g.castable self.now.wide self.now.depth cursor.old.rest.now) result
+            cursor.new.rest.now }
     {
         let operand = self.cast(cursor)?;
         let to = or_give_up!(operand, self.single_behind(Kind::Castable, cursor));
@@ -146,8 +170,10 @@ impl<F: Fn(Global, bool, usize, Part, &mut Cursor<'_, Word>) -> Result<NamedExpr
     /// `Treat`
     #[tactic(auto, unfolding(query_grammar::specs::Grammar::treat, query_grammar::specs::Grammar::treat_type))]
     pub fn treat(&self, cursor: &mut Cursor<'_, Word>) -> Result<NamedExpr, Stop>
-        requires { Nests forms tree self.now.wide self.now.depth (F.pre self.now.inner) (F.post self.now.inner) }
-        ensures { ReadsAs tree (reader g.treat self.now.wide self.now.depth cursor.old.rest.now) result cursor.new.rest.now }
+        requires { Nests forms tree self.now.wide self.now.depth (F.pre self.now.inner)
+            (F.post self.now.inner) }
+        ensures { ReadsAs tree (reader g.treat self.now.wide self.now.depth cursor.old.rest.now)
+            result cursor.new.rest.now }
     {
         let operand = self.castable(cursor)?;
         let to = or_give_up!(operand, self.type_behind(Kind::Treat, Kind::As, cursor));
@@ -157,8 +183,11 @@ impl<F: Fn(Global, bool, usize, Part, &mut Cursor<'_, Word>) -> Result<NamedExpr
     /// `Instance`
     #[tactic(auto, unfolding(query_grammar::specs::Grammar::instance, query_grammar::specs::Grammar::instance_type))]
     pub fn instance(&self, cursor: &mut Cursor<'_, Word>) -> Result<NamedExpr, Stop>
-        requires { Nests forms tree self.now.wide self.now.depth (F.pre self.now.inner) (F.post self.now.inner) }
-        ensures { ReadsAs tree (reader g.instance self.now.wide self.now.depth cursor.old.rest.now) result cursor.new.rest.now }
+        requires { Nests forms tree self.now.wide self.now.depth (F.pre self.now.inner)
+            (F.post self.now.inner) }
+        ensures { ReadsAs tree
+            (reader g.instance self.now.wide self.now.depth cursor.old.rest.now) result
+            cursor.new.rest.now }
     {
         let operand = self.treat(cursor)?;
         let of = or_give_up!(operand, self.type_behind(Kind::Instance, Kind::Of, cursor));
@@ -168,8 +197,11 @@ impl<F: Fn(Global, bool, usize, Part, &mut Cursor<'_, Word>) -> Result<NamedExpr
     /// `( "*" | "div" | "idiv" | "mod" ) Instance`
     #[tactic(auto, unfolding(query_grammar::specs::Grammar::factor))]
     pub fn factor(&self, cursor: &mut Cursor<'_, Word>) -> Result<Factor<NamedExpr>, Stop>
-        requires { Nests forms tree self.now.wide self.now.depth (F.pre self.now.inner) (F.post self.now.inner) }
-        ensures { ReadsAs view.factor (reader g.factor self.now.wide self.now.depth cursor.old.rest.now) result cursor.new.rest.now }
+        requires { Nests forms tree self.now.wide self.now.depth (F.pre self.now.inner)
+            (F.post self.now.inner) }
+        ensures { ReadsAs view.factor
+            (reader g.factor self.now.wide self.now.depth cursor.old.rest.now) result
+            cursor.new.rest.now }
     {
         let mark = cursor.expect(Class::ProductOp)?;
         let value = self.instance(cursor)?;
@@ -183,8 +215,11 @@ impl<F: Fn(Global, bool, usize, Part, &mut Cursor<'_, Word>) -> Result<NamedExpr
     /// The further factors.
     #[tactic(auto, unfolding(query_grammar::specs::Grammar::factors))]
     pub fn factors(&self, cursor: &mut Cursor<'_, Word>) -> Result<Vec<Factor<NamedExpr>>, Stop>
-        requires { Nests forms tree self.now.wide self.now.depth (F.pre self.now.inner) (F.post self.now.inner) }
-        ensures { ReadsAs view.factors (reader g.factors self.now.wide self.now.depth cursor.old.rest.now) result cursor.new.rest.now }
+        requires { Nests forms tree self.now.wide self.now.depth (F.pre self.now.inner)
+            (F.post self.now.inner) }
+        ensures { ReadsAs view.factors
+            (reader g.factors self.now.wide self.now.depth cursor.old.rest.now) result
+            cursor.new.rest.now }
     {
         repeat(self.alloc, Class::ProductOp, |at| self.factor(at), cursor)
     }
@@ -192,8 +227,10 @@ impl<F: Fn(Global, bool, usize, Part, &mut Cursor<'_, Word>) -> Result<NamedExpr
     /// `Product`
     #[tactic(auto, unfolding(query_grammar::specs::Grammar::product))]
     pub fn product(&self, cursor: &mut Cursor<'_, Word>) -> Result<NamedExpr, Stop>
-        requires { Nests forms tree self.now.wide self.now.depth (F.pre self.now.inner) (F.post self.now.inner) }
-        ensures { ReadsAs tree (reader g.product self.now.wide self.now.depth cursor.old.rest.now) result cursor.new.rest.now }
+        requires { Nests forms tree self.now.wide self.now.depth (F.pre self.now.inner)
+            (F.post self.now.inner) }
+        ensures { ReadsAs tree (reader g.product self.now.wide self.now.depth cursor.old.rest.now)
+            result cursor.new.rest.now }
     {
         let first = self.instance(cursor)?;
         let rest = or_give_up!(first, self.factors(cursor));
@@ -203,8 +240,11 @@ impl<F: Fn(Global, bool, usize, Part, &mut Cursor<'_, Word>) -> Result<NamedExpr
     /// `( "+" | "-" ) Product`
     #[tactic(auto, unfolding(query_grammar::specs::Grammar::term))]
     pub fn term(&self, cursor: &mut Cursor<'_, Word>) -> Result<Term<NamedExpr>, Stop>
-        requires { Nests forms tree self.now.wide self.now.depth (F.pre self.now.inner) (F.post self.now.inner) }
-        ensures { ReadsAs view.term (reader g.term self.now.wide self.now.depth cursor.old.rest.now) result cursor.new.rest.now }
+        requires { Nests forms tree self.now.wide self.now.depth (F.pre self.now.inner)
+            (F.post self.now.inner) }
+        ensures { ReadsAs view.term
+            (reader g.term self.now.wide self.now.depth cursor.old.rest.now) result
+            cursor.new.rest.now }
     {
         let mark = cursor.expect(Class::SumOp)?;
         let value = self.product(cursor)?;
@@ -218,8 +258,11 @@ impl<F: Fn(Global, bool, usize, Part, &mut Cursor<'_, Word>) -> Result<NamedExpr
     /// The further terms.
     #[tactic(auto, unfolding(query_grammar::specs::Grammar::terms))]
     pub fn terms(&self, cursor: &mut Cursor<'_, Word>) -> Result<Vec<Term<NamedExpr>>, Stop>
-        requires { Nests forms tree self.now.wide self.now.depth (F.pre self.now.inner) (F.post self.now.inner) }
-        ensures { ReadsAs view.terms (reader g.terms self.now.wide self.now.depth cursor.old.rest.now) result cursor.new.rest.now }
+        requires { Nests forms tree self.now.wide self.now.depth (F.pre self.now.inner)
+            (F.post self.now.inner) }
+        ensures { ReadsAs view.terms
+            (reader g.terms self.now.wide self.now.depth cursor.old.rest.now) result
+            cursor.new.rest.now }
     {
         repeat(self.alloc, Class::SumOp, |at| self.term(at), cursor)
     }
@@ -227,8 +270,10 @@ impl<F: Fn(Global, bool, usize, Part, &mut Cursor<'_, Word>) -> Result<NamedExpr
     /// `Sum`
     #[tactic(auto, unfolding(query_grammar::specs::Grammar::sum))]
     pub fn sum(&self, cursor: &mut Cursor<'_, Word>) -> Result<NamedExpr, Stop>
-        requires { Nests forms tree self.now.wide self.now.depth (F.pre self.now.inner) (F.post self.now.inner) }
-        ensures { ReadsAs tree (reader g.sum self.now.wide self.now.depth cursor.old.rest.now) result cursor.new.rest.now }
+        requires { Nests forms tree self.now.wide self.now.depth (F.pre self.now.inner)
+            (F.post self.now.inner) }
+        ensures { ReadsAs tree (reader g.sum self.now.wide self.now.depth cursor.old.rest.now)
+            result cursor.new.rest.now }
     {
         let first = self.product(cursor)?;
         let rest = or_give_up!(first, self.terms(cursor));
@@ -238,8 +283,11 @@ impl<F: Fn(Global, bool, usize, Part, &mut Cursor<'_, Word>) -> Result<NamedExpr
     /// `[ "to" Sum ]`
     #[tactic(auto, unfolding(query_grammar::specs::Grammar::range_end))]
     pub fn range_end(&self, cursor: &mut Cursor<'_, Word>) -> Result<Option<(u32, NamedExpr)>, Stop>
-        requires { Nests forms tree self.now.wide self.now.depth (F.pre self.now.inner) (F.post self.now.inner) }
-        ensures { ReadsAs view.range_end (reader g.range_end self.now.wide self.now.depth cursor.old.rest.now) result cursor.new.rest.now }
+        requires { Nests forms tree self.now.wide self.now.depth (F.pre self.now.inner)
+            (F.post self.now.inner) }
+        ensures { ReadsAs view.range_end
+            (reader g.range_end self.now.wide self.now.depth cursor.old.rest.now) result
+            cursor.new.rest.now }
     {
         if !cursor.sees(Kind::To) {
             return Ok(None);
@@ -252,8 +300,10 @@ impl<F: Fn(Global, bool, usize, Part, &mut Cursor<'_, Word>) -> Result<NamedExpr
     /// `Range`
     #[tactic(auto, unfolding(query_grammar::specs::Grammar::range))]
     pub fn range(&self, cursor: &mut Cursor<'_, Word>) -> Result<NamedExpr, Stop>
-        requires { Nests forms tree self.now.wide self.now.depth (F.pre self.now.inner) (F.post self.now.inner) }
-        ensures { ReadsAs tree (reader g.range self.now.wide self.now.depth cursor.old.rest.now) result cursor.new.rest.now }
+        requires { Nests forms tree self.now.wide self.now.depth (F.pre self.now.inner)
+            (F.post self.now.inner) }
+        ensures { ReadsAs tree (reader g.range self.now.wide self.now.depth cursor.old.rest.now)
+            result cursor.new.rest.now }
     {
         let left = self.sum(cursor)?;
         let right = or_give_up!(left, self.range_end(cursor));
@@ -263,8 +313,11 @@ impl<F: Fn(Global, bool, usize, Part, &mut Cursor<'_, Word>) -> Result<NamedExpr
     /// `"||" Range`
     #[tactic(auto, unfolding(query_grammar::specs::Grammar::concat_operand))]
     pub fn concat_operand(&self, cursor: &mut Cursor<'_, Word>) -> Result<Operand<NamedExpr>, Stop>
-        requires { Nests forms tree self.now.wide self.now.depth (F.pre self.now.inner) (F.post self.now.inner) }
-        ensures { ReadsAs view.operand (reader g.concat_operand self.now.wide self.now.depth cursor.old.rest.now) result cursor.new.rest.now }
+        requires { Nests forms tree self.now.wide self.now.depth (F.pre self.now.inner)
+            (F.post self.now.inner) }
+        ensures { ReadsAs view.operand
+            (reader g.concat_operand self.now.wide self.now.depth cursor.old.rest.now) result
+            cursor.new.rest.now }
     {
         let place = cursor.expect(Kind::Bars)?.place;
         let value = self.range(cursor)?;
@@ -277,8 +330,11 @@ impl<F: Fn(Global, bool, usize, Part, &mut Cursor<'_, Word>) -> Result<NamedExpr
         &self,
         cursor: &mut Cursor<'_, Word>,
     ) -> Result<Vec<Operand<NamedExpr>>, Stop>
-        requires { Nests forms tree self.now.wide self.now.depth (F.pre self.now.inner) (F.post self.now.inner) }
-        ensures { ReadsAs view.operands (reader g.concat_operands self.now.wide self.now.depth cursor.old.rest.now) result cursor.new.rest.now }
+        requires { Nests forms tree self.now.wide self.now.depth (F.pre self.now.inner)
+            (F.post self.now.inner) }
+        ensures { ReadsAs view.operands
+            (reader g.concat_operands self.now.wide self.now.depth cursor.old.rest.now) result
+            cursor.new.rest.now }
     {
         repeat(self.alloc, Kind::Bars, |at| self.concat_operand(at), cursor)
     }
@@ -286,8 +342,10 @@ impl<F: Fn(Global, bool, usize, Part, &mut Cursor<'_, Word>) -> Result<NamedExpr
     /// `Concat`
     #[tactic(auto, unfolding(query_grammar::specs::Grammar::concat))]
     pub fn concat(&self, cursor: &mut Cursor<'_, Word>) -> Result<NamedExpr, Stop>
-        requires { Nests forms tree self.now.wide self.now.depth (F.pre self.now.inner) (F.post self.now.inner) }
-        ensures { ReadsAs tree (reader g.concat self.now.wide self.now.depth cursor.old.rest.now) result cursor.new.rest.now }
+        requires { Nests forms tree self.now.wide self.now.depth (F.pre self.now.inner)
+            (F.post self.now.inner) }
+        ensures { ReadsAs tree (reader g.concat self.now.wide self.now.depth cursor.old.rest.now)
+            result cursor.new.rest.now }
     {
         let first = self.range(cursor)?;
         let rest = or_give_up!(first, self.concat_operands(cursor));
@@ -300,8 +358,11 @@ impl<F: Fn(Global, bool, usize, Part, &mut Cursor<'_, Word>) -> Result<NamedExpr
         &self,
         cursor: &mut Cursor<'_, Word>,
     ) -> Result<(CompareOp, u32, NamedExpr), Stop>
-        requires { Nests forms tree self.now.wide self.now.depth (F.pre self.now.inner) (F.post self.now.inner) }
-        ensures { ReadsAs view.compared (reader g.compared self.now.wide self.now.depth cursor.old.rest.now) result cursor.new.rest.now }
+        requires { Nests forms tree self.now.wide self.now.depth (F.pre self.now.inner)
+            (F.post self.now.inner) }
+        ensures { ReadsAs view.compared
+            (reader g.compared self.now.wide self.now.depth cursor.old.rest.now) result
+            cursor.new.rest.now }
     {
         let mark = cursor.expect(Class::CompareOp)?;
         let value = self.concat(cursor)?;
@@ -314,8 +375,11 @@ impl<F: Fn(Global, bool, usize, Part, &mut Cursor<'_, Word>) -> Result<NamedExpr
         &self,
         cursor: &mut Cursor<'_, Word>,
     ) -> Result<Option<(CompareOp, u32, NamedExpr)>, Stop>
-        requires { Nests forms tree self.now.wide self.now.depth (F.pre self.now.inner) (F.post self.now.inner) }
-        ensures { ReadsAs view.comparison (reader g.comparison self.now.wide self.now.depth cursor.old.rest.now) result cursor.new.rest.now }
+        requires { Nests forms tree self.now.wide self.now.depth (F.pre self.now.inner)
+            (F.post self.now.inner) }
+        ensures { ReadsAs view.comparison
+            (reader g.comparison self.now.wide self.now.depth cursor.old.rest.now) result
+            cursor.new.rest.now }
     {
         if !cursor.sees(Class::CompareOp) {
             return Ok(None);
@@ -327,8 +391,10 @@ impl<F: Fn(Global, bool, usize, Part, &mut Cursor<'_, Word>) -> Result<NamedExpr
     /// `Compare`
     #[tactic(auto, unfolding(query_grammar::specs::Grammar::compare))]
     pub fn compare(&self, cursor: &mut Cursor<'_, Word>) -> Result<NamedExpr, Stop>
-        requires { Nests forms tree self.now.wide self.now.depth (F.pre self.now.inner) (F.post self.now.inner) }
-        ensures { ReadsAs tree (reader g.compare self.now.wide self.now.depth cursor.old.rest.now) result cursor.new.rest.now }
+        requires { Nests forms tree self.now.wide self.now.depth (F.pre self.now.inner)
+            (F.post self.now.inner) }
+        ensures { ReadsAs tree (reader g.compare self.now.wide self.now.depth cursor.old.rest.now)
+            result cursor.new.rest.now }
     {
         let left = self.concat(cursor)?;
         let right = or_give_up!(left, self.comparison(cursor));
@@ -338,8 +404,11 @@ impl<F: Fn(Global, bool, usize, Part, &mut Cursor<'_, Word>) -> Result<NamedExpr
     /// `Not`
     #[tactic(auto, using(query_tree::proofs::Layers::layers), unfolding(query_grammar::specs::Grammar::not_level))]
     pub fn not_level(&self, cursor: &mut Cursor<'_, Word>) -> Result<NamedExpr, Stop>
-        requires { Nests forms tree self.now.wide self.now.depth (F.pre self.now.inner) (F.post self.now.inner) }
-        ensures { ReadsAs tree (reader g.not_level self.now.wide self.now.depth cursor.old.rest.now) result cursor.new.rest.now }
+        requires { Nests forms tree self.now.wide self.now.depth (F.pre self.now.inner)
+            (F.post self.now.inner) }
+        ensures { ReadsAs tree
+            (reader g.not_level self.now.wide self.now.depth cursor.old.rest.now) result
+            cursor.new.rest.now }
     {
         if !cursor.sees(Kind::Not) {
             return self.compare(cursor);
@@ -355,8 +424,11 @@ impl<F: Fn(Global, bool, usize, Part, &mut Cursor<'_, Word>) -> Result<NamedExpr
     /// `"and" Not`
     #[tactic(auto, unfolding(query_grammar::specs::Grammar::and_operand))]
     pub fn and_operand(&self, cursor: &mut Cursor<'_, Word>) -> Result<Operand<NamedExpr>, Stop>
-        requires { Nests forms tree self.now.wide self.now.depth (F.pre self.now.inner) (F.post self.now.inner) }
-        ensures { ReadsAs view.operand (reader g.and_operand self.now.wide self.now.depth cursor.old.rest.now) result cursor.new.rest.now }
+        requires { Nests forms tree self.now.wide self.now.depth (F.pre self.now.inner)
+            (F.post self.now.inner) }
+        ensures { ReadsAs view.operand
+            (reader g.and_operand self.now.wide self.now.depth cursor.old.rest.now) result
+            cursor.new.rest.now }
     {
         let place = cursor.expect(Kind::And)?.place;
         let value = self.not_level(cursor)?;
@@ -369,8 +441,11 @@ impl<F: Fn(Global, bool, usize, Part, &mut Cursor<'_, Word>) -> Result<NamedExpr
         &self,
         cursor: &mut Cursor<'_, Word>,
     ) -> Result<Vec<Operand<NamedExpr>>, Stop>
-        requires { Nests forms tree self.now.wide self.now.depth (F.pre self.now.inner) (F.post self.now.inner) }
-        ensures { ReadsAs view.operands (reader g.and_operands self.now.wide self.now.depth cursor.old.rest.now) result cursor.new.rest.now }
+        requires { Nests forms tree self.now.wide self.now.depth (F.pre self.now.inner)
+            (F.post self.now.inner) }
+        ensures { ReadsAs view.operands
+            (reader g.and_operands self.now.wide self.now.depth cursor.old.rest.now) result
+            cursor.new.rest.now }
     {
         repeat(self.alloc, Kind::And, |at| self.and_operand(at), cursor)
     }
@@ -378,8 +453,11 @@ impl<F: Fn(Global, bool, usize, Part, &mut Cursor<'_, Word>) -> Result<NamedExpr
     /// `And`
     #[tactic(auto, unfolding(query_grammar::specs::Grammar::and_level))]
     pub fn and_level(&self, cursor: &mut Cursor<'_, Word>) -> Result<NamedExpr, Stop>
-        requires { Nests forms tree self.now.wide self.now.depth (F.pre self.now.inner) (F.post self.now.inner) }
-        ensures { ReadsAs tree (reader g.and_level self.now.wide self.now.depth cursor.old.rest.now) result cursor.new.rest.now }
+        requires { Nests forms tree self.now.wide self.now.depth (F.pre self.now.inner)
+            (F.post self.now.inner) }
+        ensures { ReadsAs tree
+            (reader g.and_level self.now.wide self.now.depth cursor.old.rest.now) result
+            cursor.new.rest.now }
     {
         let first = self.not_level(cursor)?;
         let rest = or_give_up!(first, self.and_operands(cursor));
@@ -389,8 +467,11 @@ impl<F: Fn(Global, bool, usize, Part, &mut Cursor<'_, Word>) -> Result<NamedExpr
     /// `"or" And`
     #[tactic(auto, unfolding(query_grammar::specs::Grammar::or_operand))]
     pub fn or_operand(&self, cursor: &mut Cursor<'_, Word>) -> Result<Operand<NamedExpr>, Stop>
-        requires { Nests forms tree self.now.wide self.now.depth (F.pre self.now.inner) (F.post self.now.inner) }
-        ensures { ReadsAs view.operand (reader g.or_operand self.now.wide self.now.depth cursor.old.rest.now) result cursor.new.rest.now }
+        requires { Nests forms tree self.now.wide self.now.depth (F.pre self.now.inner)
+            (F.post self.now.inner) }
+        ensures { ReadsAs view.operand
+            (reader g.or_operand self.now.wide self.now.depth cursor.old.rest.now) result
+            cursor.new.rest.now }
     {
         let place = cursor.expect(Kind::Or)?.place;
         let value = self.and_level(cursor)?;
@@ -403,8 +484,11 @@ impl<F: Fn(Global, bool, usize, Part, &mut Cursor<'_, Word>) -> Result<NamedExpr
         &self,
         cursor: &mut Cursor<'_, Word>,
     ) -> Result<Vec<Operand<NamedExpr>>, Stop>
-        requires { Nests forms tree self.now.wide self.now.depth (F.pre self.now.inner) (F.post self.now.inner) }
-        ensures { ReadsAs view.operands (reader g.or_operands self.now.wide self.now.depth cursor.old.rest.now) result cursor.new.rest.now }
+        requires { Nests forms tree self.now.wide self.now.depth (F.pre self.now.inner)
+            (F.post self.now.inner) }
+        ensures { ReadsAs view.operands
+            (reader g.or_operands self.now.wide self.now.depth cursor.old.rest.now) result
+            cursor.new.rest.now }
     {
         repeat(self.alloc, Kind::Or, |at| self.or_operand(at), cursor)
     }
@@ -412,8 +496,11 @@ impl<F: Fn(Global, bool, usize, Part, &mut Cursor<'_, Word>) -> Result<NamedExpr
     /// `Or`
     #[tactic(auto, unfolding(query_grammar::specs::Grammar::or_level))]
     pub fn or_level(&self, cursor: &mut Cursor<'_, Word>) -> Result<NamedExpr, Stop>
-        requires { Nests forms tree self.now.wide self.now.depth (F.pre self.now.inner) (F.post self.now.inner) }
-        ensures { ReadsAs tree (reader g.or_level self.now.wide self.now.depth cursor.old.rest.now) result cursor.new.rest.now }
+        requires { Nests forms tree self.now.wide self.now.depth (F.pre self.now.inner)
+            (F.post self.now.inner) }
+        ensures { ReadsAs tree
+            (reader g.or_level self.now.wide self.now.depth cursor.old.rest.now) result
+            cursor.new.rest.now }
     {
         let first = self.and_level(cursor)?;
         let rest = or_give_up!(first, self.or_operands(cursor));

@@ -61,8 +61,11 @@ impl<F: Fn(Global, bool, usize, Part, &mut Cursor<'_, Word>) -> Result<NamedExpr
     /// Reads a part that stands inside a form.
     #[tactic(auto, unfolding(grammar_parts::specs::Levels::inside))]
     pub fn inside(&self, part: Part, cursor: &mut Cursor<'_, Word>) -> Result<NamedExpr, Stop>
-        requires nests { Nests forms tree self.now.wide self.now.depth (F.pre self.now.inner) (F.post self.now.inner) }
-        ensures { ReadsAs tree ((inside forms self.now.wide self.now.depth part).read cursor.old.rest.now) result cursor.new.rest.now }
+        requires nests { Nests forms tree self.now.wide self.now.depth (F.pre self.now.inner)
+            (F.post self.now.inner) }
+        ensures { ReadsAs tree
+            ((inside forms self.now.wide self.now.depth part).read cursor.old.rest.now) result
+            cursor.new.rest.now }
     {
         if self.depth == 0 {
             return Err(Stop::Refused);

@@ -20,8 +20,10 @@ impl<F: Fn(Global, bool, usize, Part, &mut Cursor<'_, Word>) -> Result<NamedExpr
     /// `Int | Dec | Text | True | False | Null | Var | Context`
     #[tactic(auto, using(query_tree::proofs::Layers::layers), unfolding(query_grammar::specs::Grammar::literal))]
     pub fn literal(&self, cursor: &mut Cursor<'_, Word>) -> Result<NamedExpr, Stop>
-        requires { Nests forms tree self.now.wide self.now.depth (F.pre self.now.inner) (F.post self.now.inner) }
-        ensures { ReadsAs tree (reader g.literal self.now.wide self.now.depth cursor.old.rest.now) result cursor.new.rest.now }
+        requires { Nests forms tree self.now.wide self.now.depth (F.pre self.now.inner)
+            (F.post self.now.inner) }
+        ensures { ReadsAs tree (reader g.literal self.now.wide self.now.depth cursor.old.rest.now)
+            result cursor.new.rest.now }
     {
         let word = cursor.expect(Class::Literal { wide: self.wide })?;
         literal(self.alloc, word)
@@ -30,8 +32,11 @@ impl<F: Fn(Global, bool, usize, Part, &mut Cursor<'_, Word>) -> Result<NamedExpr
     /// `"(" Expr ")"`
     #[tactic(auto, unfolding(query_grammar::specs::Grammar::in_parens))]
     pub fn in_parens(&self, cursor: &mut Cursor<'_, Word>) -> Result<NamedExpr, Stop>
-        requires { Nests forms tree self.now.wide self.now.depth (F.pre self.now.inner) (F.post self.now.inner) }
-        ensures { ReadsAs tree (reader g.in_parens self.now.wide self.now.depth cursor.old.rest.now) result cursor.new.rest.now }
+        requires { Nests forms tree self.now.wide self.now.depth (F.pre self.now.inner)
+            (F.post self.now.inner) }
+        ensures { ReadsAs tree
+            (reader g.in_parens self.now.wide self.now.depth cursor.old.rest.now) result
+            cursor.new.rest.now }
     {
         cursor.expect(Kind::OpenParen)?;
         let content = self.inside(Part::Expr, cursor)?;
@@ -42,8 +47,11 @@ impl<F: Fn(Global, bool, usize, Part, &mut Cursor<'_, Word>) -> Result<NamedExpr
     /// `"{" Expr "}"`
     #[tactic(auto, unfolding(query_grammar::specs::Grammar::in_braces))]
     pub fn in_braces(&self, cursor: &mut Cursor<'_, Word>) -> Result<NamedExpr, Stop>
-        requires { Nests forms tree self.now.wide self.now.depth (F.pre self.now.inner) (F.post self.now.inner) }
-        ensures { ReadsAs tree (reader g.in_braces self.now.wide self.now.depth cursor.old.rest.now) result cursor.new.rest.now }
+        requires { Nests forms tree self.now.wide self.now.depth (F.pre self.now.inner)
+            (F.post self.now.inner) }
+        ensures { ReadsAs tree
+            (reader g.in_braces self.now.wide self.now.depth cursor.old.rest.now) result
+            cursor.new.rest.now }
     {
         cursor.expect(Kind::OpenBrace)?;
         let content = self.inside(Part::Expr, cursor)?;
@@ -54,8 +62,11 @@ impl<F: Fn(Global, bool, usize, Part, &mut Cursor<'_, Word>) -> Result<NamedExpr
     /// `[ Expr ]`
     #[tactic(auto, unfolding(query_grammar::specs::Grammar::content))]
     pub fn content(&self, cursor: &mut Cursor<'_, Word>) -> Result<Option<Box<NamedExpr>>, Stop>
-        requires { Nests forms tree self.now.wide self.now.depth (F.pre self.now.inner) (F.post self.now.inner) }
-        ensures { ReadsAs view.boxed (reader g.content self.now.wide self.now.depth cursor.old.rest.now) result cursor.new.rest.now }
+        requires { Nests forms tree self.now.wide self.now.depth (F.pre self.now.inner)
+            (F.post self.now.inner) }
+        ensures { ReadsAs view.boxed
+            (reader g.content self.now.wide self.now.depth cursor.old.rest.now) result
+            cursor.new.rest.now }
     {
         if !cursor.sees(self.single_class()) {
             return Ok(None);
@@ -67,8 +78,10 @@ impl<F: Fn(Global, bool, usize, Part, &mut Cursor<'_, Word>) -> Result<NamedExpr
     /// `"(" [ Expr ] ")"`
     #[tactic(auto, using(query_tree::proofs::Layers::layers), unfolding(query_grammar::specs::Grammar::paren))]
     pub fn paren(&self, cursor: &mut Cursor<'_, Word>) -> Result<NamedExpr, Stop>
-        requires { Nests forms tree self.now.wide self.now.depth (F.pre self.now.inner) (F.post self.now.inner) }
-        ensures { ReadsAs tree (reader g.paren self.now.wide self.now.depth cursor.old.rest.now) result cursor.new.rest.now }
+        requires { Nests forms tree self.now.wide self.now.depth (F.pre self.now.inner)
+            (F.post self.now.inner) }
+        ensures { ReadsAs tree (reader g.paren self.now.wide self.now.depth cursor.old.rest.now)
+            result cursor.new.rest.now }
     {
         if self.depth == 0 {
             return Err(Stop::Refused);
@@ -85,8 +98,10 @@ impl<F: Fn(Global, bool, usize, Part, &mut Cursor<'_, Word>) -> Result<NamedExpr
     /// `"{|" [ Expr ] "|}"`
     #[tactic(auto, using(query_tree::proofs::Layers::layers), unfolding(query_grammar::specs::Grammar::merge))]
     pub fn merge(&self, cursor: &mut Cursor<'_, Word>) -> Result<NamedExpr, Stop>
-        requires { Nests forms tree self.now.wide self.now.depth (F.pre self.now.inner) (F.post self.now.inner) }
-        ensures { ReadsAs tree (reader g.merge self.now.wide self.now.depth cursor.old.rest.now) result cursor.new.rest.now }
+        requires { Nests forms tree self.now.wide self.now.depth (F.pre self.now.inner)
+            (F.post self.now.inner) }
+        ensures { ReadsAs tree (reader g.merge self.now.wide self.now.depth cursor.old.rest.now)
+            result cursor.new.rest.now }
     {
         if self.depth == 0 {
             return Err(Stop::Refused);
@@ -103,8 +118,10 @@ impl<F: Fn(Global, bool, usize, Part, &mut Cursor<'_, Word>) -> Result<NamedExpr
     /// `"[" [ Expr ] "]"`
     #[tactic(auto, using(query_tree::proofs::Layers::layers), unfolding(query_grammar::specs::Grammar::array))]
     pub fn array(&self, cursor: &mut Cursor<'_, Word>) -> Result<NamedExpr, Stop>
-        requires { Nests forms tree self.now.wide self.now.depth (F.pre self.now.inner) (F.post self.now.inner) }
-        ensures { ReadsAs tree (reader g.array self.now.wide self.now.depth cursor.old.rest.now) result cursor.new.rest.now }
+        requires { Nests forms tree self.now.wide self.now.depth (F.pre self.now.inner)
+            (F.post self.now.inner) }
+        ensures { ReadsAs tree (reader g.array self.now.wide self.now.depth cursor.old.rest.now)
+            result cursor.new.rest.now }
     {
         if self.depth == 0 {
             return Err(Stop::Refused);
@@ -121,8 +138,11 @@ impl<F: Fn(Global, bool, usize, Part, &mut Cursor<'_, Word>) -> Result<NamedExpr
     /// `( Name | Single ) ":"`, where a name that `:` follows is a name, and then `Single`.
     #[tactic(auto, unfolding(query_grammar::specs::Grammar::pair, query_grammar::specs::Grammar::pair_key, query_grammar::specs::Grammar::name_key, query_grammar::specs::Grammar::computed_key))]
     pub fn pair(&self, cursor: &mut Cursor<'_, Word>) -> Result<Pair<NamedExpr>, Stop>
-        requires { Nests forms tree self.now.wide self.now.depth (F.pre self.now.inner) (F.post self.now.inner) }
-        ensures { ReadsAs view.pair (reader g.pair self.now.wide self.now.depth cursor.old.rest.now) result cursor.new.rest.now }
+        requires { Nests forms tree self.now.wide self.now.depth (F.pre self.now.inner)
+            (F.post self.now.inner) }
+        ensures { ReadsAs view.pair
+            (reader g.pair self.now.wide self.now.depth cursor.old.rest.now) result
+            cursor.new.rest.now }
     {
         if cursor.sees_two(Class::Name, Kind::Colon) {
             let word = cursor.expect(Class::Name)?;
@@ -144,8 +164,11 @@ impl<F: Fn(Global, bool, usize, Part, &mut Cursor<'_, Word>) -> Result<NamedExpr
     /// `Pair { "," Pair }`
     #[tactic(auto, unfolding(query_grammar::specs::Grammar::pair_list))]
     pub fn pair_list(&self, cursor: &mut Cursor<'_, Word>) -> Result<Vec<Pair<NamedExpr>>, Stop>
-        requires { Nests forms tree self.now.wide self.now.depth (F.pre self.now.inner) (F.post self.now.inner) }
-        ensures { ReadsAs view.pairs (reader g.pair_list self.now.wide self.now.depth cursor.old.rest.now) result cursor.new.rest.now }
+        requires { Nests forms tree self.now.wide self.now.depth (F.pre self.now.inner)
+            (F.post self.now.inner) }
+        ensures { ReadsAs view.pairs
+            (reader g.pair_list self.now.wide self.now.depth cursor.old.rest.now) result
+            cursor.new.rest.now }
     {
         list(self.alloc, Kind::Comma, |at| self.pair(at), cursor)
     }
@@ -153,8 +176,11 @@ impl<F: Fn(Global, bool, usize, Part, &mut Cursor<'_, Word>) -> Result<NamedExpr
     /// `[ Pair { "," Pair } ]`
     #[tactic(auto, unfolding(query_grammar::specs::Grammar::pairs))]
     pub fn pairs(&self, cursor: &mut Cursor<'_, Word>) -> Result<Vec<Pair<NamedExpr>>, Stop>
-        requires { Nests forms tree self.now.wide self.now.depth (F.pre self.now.inner) (F.post self.now.inner) }
-        ensures { ReadsAs view.pairs (reader g.pairs self.now.wide self.now.depth cursor.old.rest.now) result cursor.new.rest.now }
+        requires { Nests forms tree self.now.wide self.now.depth (F.pre self.now.inner)
+            (F.post self.now.inner) }
+        ensures { ReadsAs view.pairs
+            (reader g.pairs self.now.wide self.now.depth cursor.old.rest.now) result
+            cursor.new.rest.now }
     {
         if !cursor.sees(self.pair_class()) {
             return Ok(Vec::new(self.alloc));
@@ -165,8 +191,10 @@ impl<F: Fn(Global, bool, usize, Part, &mut Cursor<'_, Word>) -> Result<NamedExpr
     /// `Object`
     #[tactic(auto, using(query_tree::proofs::Layers::layers), unfolding(query_grammar::specs::Grammar::object))]
     pub fn object(&self, cursor: &mut Cursor<'_, Word>) -> Result<NamedExpr, Stop>
-        requires { Nests forms tree self.now.wide self.now.depth (F.pre self.now.inner) (F.post self.now.inner) }
-        ensures { ReadsAs tree (reader g.object self.now.wide self.now.depth cursor.old.rest.now) result cursor.new.rest.now }
+        requires { Nests forms tree self.now.wide self.now.depth (F.pre self.now.inner)
+            (F.post self.now.inner) }
+        ensures { ReadsAs tree (reader g.object self.now.wide self.now.depth cursor.old.rest.now)
+            result cursor.new.rest.now }
     {
         if self.depth == 0 {
             return Err(Stop::Refused);
@@ -183,8 +211,11 @@ impl<F: Fn(Global, bool, usize, Part, &mut Cursor<'_, Word>) -> Result<NamedExpr
     /// An argument; the wider grammar also has `?`.
     #[tactic(auto, unfolding(query_grammar::specs::Grammar::argument))]
     pub fn argument(&self, cursor: &mut Cursor<'_, Word>) -> Result<NamedExpr, Stop>
-        requires { Nests forms tree self.now.wide self.now.depth (F.pre self.now.inner) (F.post self.now.inner) }
-        ensures { ReadsAs tree (reader g.argument self.now.wide self.now.depth cursor.old.rest.now) result cursor.new.rest.now }
+        requires { Nests forms tree self.now.wide self.now.depth (F.pre self.now.inner)
+            (F.post self.now.inner) }
+        ensures { ReadsAs tree
+            (reader g.argument self.now.wide self.now.depth cursor.old.rest.now) result
+            cursor.new.rest.now }
     {
         if cursor.sees(self.single_class()) {
             return self.inside(Part::Single, cursor);
@@ -199,8 +230,11 @@ impl<F: Fn(Global, bool, usize, Part, &mut Cursor<'_, Word>) -> Result<NamedExpr
     /// `Single { "," Single }`
     #[tactic(auto, unfolding(query_grammar::specs::Grammar::argument_list))]
     pub fn argument_list(&self, cursor: &mut Cursor<'_, Word>) -> Result<Vec<NamedExpr>, Stop>
-        requires { Nests forms tree self.now.wide self.now.depth (F.pre self.now.inner) (F.post self.now.inner) }
-        ensures { ReadsAs view.trees (reader g.argument_list self.now.wide self.now.depth cursor.old.rest.now) result cursor.new.rest.now }
+        requires { Nests forms tree self.now.wide self.now.depth (F.pre self.now.inner)
+            (F.post self.now.inner) }
+        ensures { ReadsAs view.trees
+            (reader g.argument_list self.now.wide self.now.depth cursor.old.rest.now) result
+            cursor.new.rest.now }
     {
         list(self.alloc, Kind::Comma, |at| self.argument(at), cursor)
     }
@@ -208,8 +242,11 @@ impl<F: Fn(Global, bool, usize, Part, &mut Cursor<'_, Word>) -> Result<NamedExpr
     /// `[ Single { "," Single } ]`
     #[tactic(auto, unfolding(query_grammar::specs::Grammar::some_arguments))]
     pub fn some_arguments(&self, cursor: &mut Cursor<'_, Word>) -> Result<Vec<NamedExpr>, Stop>
-        requires { Nests forms tree self.now.wide self.now.depth (F.pre self.now.inner) (F.post self.now.inner) }
-        ensures { ReadsAs view.trees (reader g.some_arguments self.now.wide self.now.depth cursor.old.rest.now) result cursor.new.rest.now }
+        requires { Nests forms tree self.now.wide self.now.depth (F.pre self.now.inner)
+            (F.post self.now.inner) }
+        ensures { ReadsAs view.trees
+            (reader g.some_arguments self.now.wide self.now.depth cursor.old.rest.now) result
+            cursor.new.rest.now }
     {
         if !cursor.sees(self.argument_class()) {
             return Ok(Vec::new(self.alloc));
@@ -220,8 +257,11 @@ impl<F: Fn(Global, bool, usize, Part, &mut Cursor<'_, Word>) -> Result<NamedExpr
     /// `"(" [ Single { "," Single } ] ")"`
     #[tactic(auto, unfolding(query_grammar::specs::Grammar::arguments))]
     pub fn arguments(&self, cursor: &mut Cursor<'_, Word>) -> Result<Vec<NamedExpr>, Stop>
-        requires { Nests forms tree self.now.wide self.now.depth (F.pre self.now.inner) (F.post self.now.inner) }
-        ensures { ReadsAs view.trees (reader g.arguments self.now.wide self.now.depth cursor.old.rest.now) result cursor.new.rest.now }
+        requires { Nests forms tree self.now.wide self.now.depth (F.pre self.now.inner)
+            (F.post self.now.inner) }
+        ensures { ReadsAs view.trees
+            (reader g.arguments self.now.wide self.now.depth cursor.old.rest.now) result
+            cursor.new.rest.now }
     {
         cursor.expect(Kind::OpenParen)?;
         let found = self.some_arguments(cursor)?;
@@ -232,8 +272,11 @@ impl<F: Fn(Global, bool, usize, Part, &mut Cursor<'_, Word>) -> Result<NamedExpr
     /// `"#" Int`, in the wider grammar.
     #[tactic(auto, unfolding(query_grammar::specs::Grammar::arity))]
     pub fn arity(&self, cursor: &mut Cursor<'_, Word>) -> Result<Vec<NamedExpr>, Stop>
-        requires { Nests forms tree self.now.wide self.now.depth (F.pre self.now.inner) (F.post self.now.inner) }
-        ensures { ReadsAs view.trees (reader g.arity self.now.wide self.now.depth cursor.old.rest.now) result cursor.new.rest.now }
+        requires { Nests forms tree self.now.wide self.now.depth (F.pre self.now.inner)
+            (F.post self.now.inner) }
+        ensures { ReadsAs view.trees
+            (reader g.arity self.now.wide self.now.depth cursor.old.rest.now) result
+            cursor.new.rest.now }
     {
         if !self.wide {
             return Err(Stop::Refused);
@@ -246,8 +289,10 @@ impl<F: Fn(Global, bool, usize, Part, &mut Cursor<'_, Word>) -> Result<NamedExpr
     /// `Call`
     #[tactic(auto, unfolding(query_grammar::specs::Grammar::call))]
     pub fn call(&self, cursor: &mut Cursor<'_, Word>) -> Result<NamedExpr, Stop>
-        requires { Nests forms tree self.now.wide self.now.depth (F.pre self.now.inner) (F.post self.now.inner) }
-        ensures { ReadsAs tree (reader g.call self.now.wide self.now.depth cursor.old.rest.now) result cursor.new.rest.now }
+        requires { Nests forms tree self.now.wide self.now.depth (F.pre self.now.inner)
+            (F.post self.now.inner) }
+        ensures { ReadsAs tree (reader g.call self.now.wide self.now.depth cursor.old.rest.now)
+            result cursor.new.rest.now }
     {
         if self.depth == 0 {
             return Err(Stop::Refused);
@@ -264,8 +309,11 @@ impl<F: Fn(Global, bool, usize, Part, &mut Cursor<'_, Word>) -> Result<NamedExpr
     /// `"function" "("`, in the wider grammar.
     #[tactic(auto, unfolding(query_grammar::specs::Grammar::inline_function))]
     pub fn inline_function(&self, cursor: &mut Cursor<'_, Word>) -> Result<NamedExpr, Stop>
-        requires { Nests forms tree self.now.wide self.now.depth (F.pre self.now.inner) (F.post self.now.inner) }
-        ensures { ReadsAs tree (reader g.inline_function self.now.wide self.now.depth cursor.old.rest.now) result cursor.new.rest.now }
+        requires { Nests forms tree self.now.wide self.now.depth (F.pre self.now.inner)
+            (F.post self.now.inner) }
+        ensures { ReadsAs tree
+            (reader g.inline_function self.now.wide self.now.depth cursor.old.rest.now) result
+            cursor.new.rest.now }
     {
         if !self.wide {
             return Err(Stop::Refused);
@@ -278,8 +326,10 @@ impl<F: Fn(Global, bool, usize, Part, &mut Cursor<'_, Word>) -> Result<NamedExpr
     /// A primary expression.
     #[tactic(auto, unfolding(query_grammar::specs::Grammar::primary))]
     pub fn primary(&self, cursor: &mut Cursor<'_, Word>) -> Result<NamedExpr, Stop>
-        requires { Nests forms tree self.now.wide self.now.depth (F.pre self.now.inner) (F.post self.now.inner) }
-        ensures { ReadsAs tree (reader g.primary self.now.wide self.now.depth cursor.old.rest.now) result cursor.new.rest.now }
+        requires { Nests forms tree self.now.wide self.now.depth (F.pre self.now.inner)
+            (F.post self.now.inner) }
+        ensures { ReadsAs tree (reader g.primary self.now.wide self.now.depth cursor.old.rest.now)
+            result cursor.new.rest.now }
     {
         let room = self.depth > 0;
         if cursor.sees(Class::Literal { wide: self.wide }) {

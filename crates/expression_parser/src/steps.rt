@@ -24,8 +24,11 @@ impl<F: Fn(Global, bool, usize, Part, &mut Cursor<'_, Word>) -> Result<NamedExpr
         place: u32,
         cursor: &mut Cursor<'_, Word>,
     ) -> Result<Step<Str, NamedExpr>, Stop>
-        requires { Nests forms tree self.now.wide self.now.depth (F.pre self.now.inner) (F.post self.now.inner) }
-        ensures { ReadsAs (λ s. view.step s) (read_mapped (λ f. f place) (reader g.member self.now.wide self.now.depth) cursor.old.rest.now) result cursor.new.rest.now }
+        requires { Nests forms tree self.now.wide self.now.depth (F.pre self.now.inner)
+            (F.post self.now.inner) }
+        ensures { ReadsAs (λ s. view.step s)
+            (read_mapped (λ f. f place) (reader g.member self.now.wide self.now.depth)
+            cursor.old.rest.now) result cursor.new.rest.now }
     {
         if self.depth == 0 {
             return Err(Stop::Refused);
@@ -44,8 +47,11 @@ impl<F: Fn(Global, bool, usize, Part, &mut Cursor<'_, Word>) -> Result<NamedExpr
         place: u32,
         cursor: &mut Cursor<'_, Word>,
     ) -> Result<Step<Str, NamedExpr>, Stop>
-        requires { Nests forms tree self.now.wide self.now.depth (F.pre self.now.inner) (F.post self.now.inner) }
-        ensures { ReadsAs (λ s. view.step s) (read_mapped (λ f. f place) (reader g.filter self.now.wide self.now.depth) cursor.old.rest.now) result cursor.new.rest.now }
+        requires { Nests forms tree self.now.wide self.now.depth (F.pre self.now.inner)
+            (F.post self.now.inner) }
+        ensures { ReadsAs (λ s. view.step s)
+            (read_mapped (λ f. f place) (reader g.filter self.now.wide self.now.depth)
+            cursor.old.rest.now) result cursor.new.rest.now }
     {
         if self.depth == 0 || cursor.sees(Kind::OpenBracket) {
             return Err(Stop::Refused);
@@ -58,8 +64,11 @@ impl<F: Fn(Global, bool, usize, Part, &mut Cursor<'_, Word>) -> Result<NamedExpr
     /// `"[" "]" | "[" "[" Expr "]" "]" | "[" Expr "]"`
     #[tactic(auto, unfolding(query_grammar::specs::Grammar::bracket_step, query_grammar::specs::Grammar::members))]
     fn bracket_step(&self, cursor: &mut Cursor<'_, Word>) -> Result<Step<Str, NamedExpr>, Stop>
-        requires { Nests forms tree self.now.wide self.now.depth (F.pre self.now.inner) (F.post self.now.inner) }
-        ensures { ReadsAs view.step (reader g.bracket_step self.now.wide self.now.depth cursor.old.rest.now) result cursor.new.rest.now }
+        requires { Nests forms tree self.now.wide self.now.depth (F.pre self.now.inner)
+            (F.post self.now.inner) }
+        ensures { ReadsAs view.step
+            (reader g.bracket_step self.now.wide self.now.depth cursor.old.rest.now) result
+            cursor.new.rest.now }
     {
         let place = cursor.expect(Kind::OpenBracket)?.place;
         if cursor.sees(Kind::CloseBracket) {
@@ -76,8 +85,11 @@ impl<F: Fn(Global, bool, usize, Part, &mut Cursor<'_, Word>) -> Result<NamedExpr
     /// `Name | Text | Var | Context | "(" Expr ")"`
     #[tactic(auto, unfolding(query_grammar::specs::Grammar::plain_key, query_grammar::specs::Grammar::computed_lookup))]
     fn key(&self, cursor: &mut Cursor<'_, Word>) -> Result<Lookup<Str, NamedExpr>, Stop>
-        requires { Nests forms tree self.now.wide self.now.depth (F.pre self.now.inner) (F.post self.now.inner) }
-        ensures { ReadsAs view.lookup (reader view.key_part self.now.wide self.now.depth cursor.old.rest.now) result cursor.new.rest.now }
+        requires { Nests forms tree self.now.wide self.now.depth (F.pre self.now.inner)
+            (F.post self.now.inner) }
+        ensures { ReadsAs view.lookup
+            (reader view.key_part self.now.wide self.now.depth cursor.old.rest.now) result
+            cursor.new.rest.now }
     {
         if cursor.sees(Class::LookupKey) {
             let word = cursor.expect(Class::LookupKey)?;
@@ -93,8 +105,11 @@ impl<F: Fn(Global, bool, usize, Part, &mut Cursor<'_, Word>) -> Result<NamedExpr
     /// `"." ( Name | Text | Var | Context | "(" Expr ")" )`
     #[tactic(auto, unfolding(query_grammar::specs::Grammar::field_step))]
     fn field_step(&self, cursor: &mut Cursor<'_, Word>) -> Result<Step<Str, NamedExpr>, Stop>
-        requires { Nests forms tree self.now.wide self.now.depth (F.pre self.now.inner) (F.post self.now.inner) }
-        ensures { ReadsAs view.step (reader g.field_step self.now.wide self.now.depth cursor.old.rest.now) result cursor.new.rest.now }
+        requires { Nests forms tree self.now.wide self.now.depth (F.pre self.now.inner)
+            (F.post self.now.inner) }
+        ensures { ReadsAs view.step
+            (reader g.field_step self.now.wide self.now.depth cursor.old.rest.now) result
+            cursor.new.rest.now }
     {
         let place = cursor.expect(Kind::Dot)?.place;
         let key = self.key(cursor)?;
@@ -104,8 +119,11 @@ impl<F: Fn(Global, bool, usize, Part, &mut Cursor<'_, Word>) -> Result<NamedExpr
     /// `"("`, in the wider grammar.
     #[tactic(auto, unfolding(query_grammar::specs::Grammar::call_step))]
     pub fn call_step(&self, cursor: &mut Cursor<'_, Word>) -> Result<Step<Str, NamedExpr>, Stop>
-        requires { Nests forms tree self.now.wide self.now.depth (F.pre self.now.inner) (F.post self.now.inner) }
-        ensures { ReadsAs view.step (reader g.call_step self.now.wide self.now.depth cursor.old.rest.now) result cursor.new.rest.now }
+        requires { Nests forms tree self.now.wide self.now.depth (F.pre self.now.inner)
+            (F.post self.now.inner) }
+        ensures { ReadsAs view.step
+            (reader g.call_step self.now.wide self.now.depth cursor.old.rest.now) result
+            cursor.new.rest.now }
     {
         if !self.wide {
             return Err(Stop::Refused);
@@ -117,8 +135,11 @@ impl<F: Fn(Global, bool, usize, Part, &mut Cursor<'_, Word>) -> Result<NamedExpr
     /// `Step`
     #[tactic(auto, unfolding(query_grammar::specs::Grammar::step))]
     pub fn step(&self, cursor: &mut Cursor<'_, Word>) -> Result<Step<Str, NamedExpr>, Stop>
-        requires { Nests forms tree self.now.wide self.now.depth (F.pre self.now.inner) (F.post self.now.inner) }
-        ensures { ReadsAs view.step (reader g.step self.now.wide self.now.depth cursor.old.rest.now) result cursor.new.rest.now }
+        requires { Nests forms tree self.now.wide self.now.depth (F.pre self.now.inner)
+            (F.post self.now.inner) }
+        ensures { ReadsAs view.step
+            (reader g.step self.now.wide self.now.depth cursor.old.rest.now) result
+            cursor.new.rest.now }
     {
         if cursor.sees(Kind::OpenBracket) {
             self.bracket_step(cursor)
@@ -132,8 +153,11 @@ impl<F: Fn(Global, bool, usize, Part, &mut Cursor<'_, Word>) -> Result<NamedExpr
     /// `{ Step }`
     #[tactic(auto, unfolding(query_grammar::specs::Grammar::steps))]
     pub fn steps(&self, cursor: &mut Cursor<'_, Word>) -> Result<Vec<Step<Str, NamedExpr>>, Stop>
-        requires { Nests forms tree self.now.wide self.now.depth (F.pre self.now.inner) (F.post self.now.inner) }
-        ensures { ReadsAs view.steps (reader g.steps self.now.wide self.now.depth cursor.old.rest.now) result cursor.new.rest.now }
+        requires { Nests forms tree self.now.wide self.now.depth (F.pre self.now.inner)
+            (F.post self.now.inner) }
+        ensures { ReadsAs view.steps
+            (reader g.steps self.now.wide self.now.depth cursor.old.rest.now) result
+            cursor.new.rest.now }
     {
         repeat(
             self.alloc,
@@ -146,8 +170,10 @@ impl<F: Fn(Global, bool, usize, Part, &mut Cursor<'_, Word>) -> Result<NamedExpr
     /// `Postfix`
     #[tactic(auto, unfolding(query_grammar::specs::Grammar::postfix))]
     pub fn postfix(&self, cursor: &mut Cursor<'_, Word>) -> Result<NamedExpr, Stop>
-        requires { Nests forms tree self.now.wide self.now.depth (F.pre self.now.inner) (F.post self.now.inner) }
-        ensures { ReadsAs tree (reader g.postfix self.now.wide self.now.depth cursor.old.rest.now) result cursor.new.rest.now }
+        requires { Nests forms tree self.now.wide self.now.depth (F.pre self.now.inner)
+            (F.post self.now.inner) }
+        ensures { ReadsAs tree (reader g.postfix self.now.wide self.now.depth cursor.old.rest.now)
+            result cursor.new.rest.now }
     {
         let primary = self.primary(cursor)?;
         let steps = or_give_up!(primary, self.steps(cursor));

@@ -59,7 +59,8 @@ fn item_type(alloc: Global, cursor: &mut Cursor<'_, Word>) -> Result<Placed<Type
 /// What follows `empty-sequence`.
 #[tactic(auto, unfolding(query_grammar::specs::Grammar::empty_rest, query_grammar::specs::Grammar::empty_parens))]
 fn empty_rest(cursor: &mut Cursor<'_, Word>) -> Result<(bool, Times), Stop>
-    ensures { ReadsAs (λ x. x) ((g.empty_rest).read cursor.old.rest.now) result cursor.new.rest.now }
+    ensures { ReadsAs (λ x. x) ((g.empty_rest).read cursor.old.rest.now) result
+        cursor.new.rest.now }
 {
     if !cursor.sees(Kind::OpenParen) {
         let times = times(cursor)?;
@@ -73,7 +74,8 @@ fn empty_rest(cursor: &mut Cursor<'_, Word>) -> Result<(bool, Times), Stop>
 /// A type whose name is `empty-sequence`.
 #[tactic(auto, unfolding(query_grammar::specs::Grammar::empty_type))]
 fn empty_type(alloc: Global, cursor: &mut Cursor<'_, Word>) -> Result<Placed<TypeName>, Stop>
-    ensures { ReadsAs (λ x. x) ((g.empty_type).read cursor.old.rest.now) result cursor.new.rest.now }
+    ensures { ReadsAs (λ x. x) ((g.empty_type).read cursor.old.rest.now) result
+        cursor.new.rest.now }
 {
     let word = cursor.expect(Kind::EmptySequence)?;
     let (parens, times) = empty_rest(cursor)?;
@@ -95,7 +97,8 @@ pub fn seq_type(alloc: Global, cursor: &mut Cursor<'_, Word>) -> Result<Placed<T
 /// `Single1`
 #[tactic(auto, unfolding(query_grammar::specs::Grammar::single_type))]
 pub fn single_type(alloc: Global, cursor: &mut Cursor<'_, Word>) -> Result<Placed<TypeName>, Stop>
-    ensures { ReadsAs (λ x. x) ((g.single_type).read cursor.old.rest.now) result cursor.new.rest.now }
+    ensures { ReadsAs (λ x. x) ((g.single_type).read cursor.old.rest.now) result
+        cursor.new.rest.now }
 {
     let word = cursor.expect(Class::Name)?;
     if !cursor.sees(Kind::Question) {

@@ -17,8 +17,8 @@ Judge g s (Err r) = (u : List _) × (s ≡ u ++ r) × g.begun u × Stuck g u r
 abbrev pub Apart : {T : Type 0} → Class T → Class T → Type 0
 Apart c d = (t : _) → c t ≡ true → d t ≡ true → ⊥
 
--- The first class has exactly the first tokens of the part, the second each that can go on with a whole one;
--- the flag is true if the part may be empty.
+-- The first class has exactly the first tokens of the part, the second each that can go on with a
+-- whole one; the flag is true if the part may be empty.
 pub record Good {T A : Type 0} (g : Part T A) (first ext : Class T) (empty : Bool) : Type 0 where
   pub none : g.begun []
   pub closed : (u v : List T) → g.begun (u ++ v) → g.begun u

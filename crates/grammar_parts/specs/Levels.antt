@@ -2,7 +2,8 @@
 use Rattle.std.specs.Prelude.{ℕ, zero, suc, Bool, true, false}
 use Rattle.grammar_parts.specs.Parts.{Part, none}
 
--- What the parts depend on: whether the forms of the wider grammar are taken, whether a form may nest here, and whether one may nest inside such a form.
+-- What the parts depend on: whether the forms of the wider grammar are taken, whether a form may
+-- nest here, and whether one may nest inside such a form.
 pub record Mode : Type 0 where
   pub wide : Bool
   pub room : Bool
@@ -24,7 +25,8 @@ room_in n = has_room (pred_of n)
 abbrev pub mode_at : Bool → ℕ → Mode
 mode_at wide n = record { wide = wide; room = has_room n; room_in = room_in n }
 
--- The parts that stand inside forms, by their names `I`, all with values of one type. A grammar makes them from those with one form less.
+-- The parts that stand inside forms, by their names `I`, all with values of one type. A grammar
+-- makes them from those with one form less.
 abbrev pub Inner : Type 0 → Type 0 → Type 0 → Type 1
 Inner T I A = I → Part T A
 
@@ -37,7 +39,8 @@ inside step wide zero = λ i. none
 inside step wide (suc n) = step (mode_at wide n) (inside step wide n)
 
 -- a production where so many forms may nest
-abbrev pub at : {T I A B : Type 0} → Step T I A → (Mode → Inner T I A → Part T B) → Bool → ℕ → Part T B
+abbrev pub at : {T I A B : Type 0} → Step T I A → (Mode → Inner T I A → Part T B) → Bool → ℕ
+    → Part T B
 at step production wide n = production (mode_at wide n) (inside step wide n)
 
 -- the parts where so many forms may nest

@@ -1,10 +1,12 @@
--- Parts of a grammar, by the ways to combine them: what each derives, what begins it, and how it is read.
+-- Parts of a grammar, by the ways to combine them: what each derives, what begins it, and how it
+-- is read.
 use Rattle.std.specs.Prelude.{◌≡◌, ◌⊎◌, Bool, true, false, List, [], ◌∷◌, ◌++◌, Option, Some, None, Ok, Err}
 use Rattle.grammar_parts.specs.Tokens.{Class, sees, sees_two}
 use Rattle.grammar_parts.specs.Readers.{Reader, take_where, read_mapped, read_only, read_seq, read_alt, read_unless, read_ahead, read_many}
 
--- `whole l x`: the list derives the part, with the value x. `begun l`: the list is a beginning of the part.
--- `read` takes the longest beginning that a list has; that it does so is a law of each way to combine parts.
+-- `whole l x`: the list derives the part, with the value x. `begun l`: the list is a beginning of
+-- the part. `read` takes the longest beginning that a list has; that it does so is a law of each
+-- way to combine parts.
 pub record Part (T A : Type 0) : Type 1 where
   pub whole : List T → A → Type 0
   pub begun : List T → Type 0
@@ -32,7 +34,8 @@ NothingBegun l = l ≡ []
 abbrev pub nothing : {T A : Type 0} → A → Part T A
 nothing v = record { whole = NothingWhole v; begun = NothingBegun; read = λ s. Ok (v, s) }
 
--- ---- a part only where it is allowed: a form that nests where one more may, or a form of a wider grammar
+-- ---- a part only where it is allowed: a form that nests where one more may, or one of a wider
+-- ---- grammar
 
 unfoldable pub OnlyWhole : {T A : Type 0} → Bool → Part T A → List T → A → Type 0
 OnlyWhole allowed g l x = (allowed ≡ true) × g.whole l x
@@ -41,7 +44,11 @@ unfoldable pub OnlyBegun : {T A : Type 0} → Bool → Part T A → List T → T
 OnlyBegun allowed g l = (l ≡ []) ⊎ ((allowed ≡ true) × g.begun l)
 
 abbrev pub only : {T A : Type 0} → Bool → Part T A → Part T A
-only allowed g = record { whole = OnlyWhole allowed g; begun = OnlyBegun allowed g; read = read_only allowed g.read }
+only allowed g = record {
+  whole = OnlyWhole allowed g;
+  begun = OnlyBegun allowed g;
+  read = read_only allowed g.read;
+}
 
 -- ---- the same tokens with another value
 
@@ -52,7 +59,8 @@ unfoldable pub MappedBegun : {T A B : Type 0} → (A → B) → Part T A → Lis
 MappedBegun f g l = g.begun l
 
 abbrev pub mapped : {T A B : Type 0} → (A → B) → Part T A → Part T B
-mapped f g = record { whole = MappedWhole f g; begun = MappedBegun f g; read = read_mapped f g.read }
+mapped f g =
+    record { whole = MappedWhole f g; begun = MappedBegun f g; read = read_mapped f g.read }
 
 -- ---- one part and then another
 
@@ -60,7 +68,8 @@ unfoldable pub SeqWhole : {T A B : Type 0} → Part T A → Part T B → List T 
 SeqWhole g h l z = (a : List _) × (b : List _) × (l ≡ a ++ b) × g.whole a z.0 × h.whole b z.1
 
 unfoldable pub SeqBegun : {T A B : Type 0} → Part T A → Part T B → List T → Type 0
-SeqBegun g h l = g.begun l ⊎ ((a : List _) × (b : List _) × (x : _) × (l ≡ a ++ b) × g.whole a x × h.begun b)
+SeqBegun g h l =
+    g.begun l ⊎ ((a : List _) × (b : List _) × (x : _) × (l ≡ a ++ b) × g.whole a x × h.begun b)
 
 abbrev pub seq : {T A B : Type 0} → Part T A → Part T B → Part T (A × B)
 seq g h = record { whole = SeqWhole g h; begun = SeqBegun g h; read = read_seq g.read h.read }
@@ -72,10 +81,13 @@ abbrev pub Ends : {T A : Type 0} → Part T A → List T → List T → Type 0
 Ends g a b = (t : _) (r : List _) → b ≡ t ∷ r → g.begun (a ++ t ∷ []) → ⊥
 
 unfoldable pub LongWhole : {T A B : Type 0} → Part T A → Part T B → List T → A × B → Type 0
-LongWhole g h l z = (a : List _) × (b : List _) × (l ≡ a ++ b) × g.whole a z.0 × h.whole b z.1 × Ends g a b
+LongWhole g h l z =
+    (a : List _) × (b : List _) × (l ≡ a ++ b) × g.whole a z.0 × h.whole b z.1 × Ends g a b
 
 unfoldable pub LongBegun : {T A B : Type 0} → Part T A → Part T B → List T → Type 0
-LongBegun g h l = g.begun l ⊎ ((a : List _) × (b : List _) × (x : _) × (l ≡ a ++ b) × g.whole a x × h.begun b × Ends g a b)
+LongBegun g h l =
+    g.begun l
+    ⊎ ((a : List _) × (b : List _) × (x : _) × (l ≡ a ++ b) × g.whole a x × h.begun b × Ends g a b)
 
 abbrev pub long : {T A B : Type 0} → Part T A → Part T B → Part T (A × B)
 long g h = record { whole = LongWhole g h; begun = LongBegun g h; read = read_seq g.read h.read }
@@ -103,19 +115,27 @@ unfoldable pub UnlessBegun : {T A : Type 0} → Class T → Part T A → List T 
 UnlessBegun c g l = (sees c l ≡ false) × g.begun l
 
 abbrev pub unless : {T A : Type 0} → Class T → Part T A → Part T A
-unless c g = record { whole = UnlessWhole c g; begun = UnlessBegun c g; read = read_unless c g.read }
+unless c g =
+    record { whole = UnlessWhole c g; begun = UnlessBegun c g; read = read_unless c g.read }
 
--- ---- The first part begins with a token of the first class and then one of the second, and what begins so is never the second part.
+-- ---- The first part begins with a token of the first class and then one of the second, and what
+-- ---- begins so is never the second part.
 -- `first` has the first tokens of the second part.
 
-unfoldable pub AheadWhole : {T A : Type 0} → Class T → Class T → Part T A → Part T A → List T → A → Type 0
+unfoldable pub AheadWhole : {T A : Type 0} → Class T → Class T → Part T A → Part T A → List T → A
+    → Type 0
 AheadWhole c d g h l x = g.whole l x ⊎ ((sees_two c d l ≡ false) × h.whole l x)
 
-unfoldable pub AheadBegun : {T A : Type 0} → Class T → Class T → Part T A → Part T A → List T → Type 0
+unfoldable pub AheadBegun : {T A : Type 0} → Class T → Class T → Part T A → Part T A → List T
+    → Type 0
 AheadBegun c d g h l = g.begun l ⊎ ((sees_two c d l ≡ false) × h.begun l)
 
 abbrev pub ahead : {T A : Type 0} → Class T → Class T → Class T → Part T A → Part T A → Part T A
-ahead c d first g h = record { whole = AheadWhole c d g h; begun = AheadBegun c d g h; read = read_ahead c d first g.read h.read }
+ahead c d first g h = record {
+  whole = AheadWhole c d g h;
+  begun = AheadBegun c d g h;
+  read = read_ahead c d first g.read h.read;
+}
 
 -- ---- any number of times, as often as a token of the class is next
 
@@ -128,7 +148,8 @@ ManyWhole g l xs = Repeats g.whole l xs
 
 -- none or more whole repeats, and then a beginning of a further one
 unfoldable pub ManyBegun : {T A : Type 0} → Part T A → List T → Type 0
-ManyBegun g l = (a : List _) × (b : List _) × (xs : List _) × (l ≡ a ++ b) × Repeats g.whole a xs × g.begun b
+ManyBegun g l =
+    (a : List _) × (b : List _) × (xs : List _) × (l ≡ a ++ b) × Repeats g.whole a xs × g.begun b
 
 abbrev pub many : {T A : Type 0} → Class T → Part T A → Part T (List A)
 many c g = record { whole = ManyWhole g; begun = ManyBegun g; read = read_many c g.read }
@@ -137,11 +158,13 @@ many c g = record { whole = ManyWhole g; begun = ManyBegun g; read = read_many c
 
 abbrev pub RepeatsLong : {T A : Type 0} → Part T A → List T → List A → Type 0
 RepeatsLong g l [] = l ≡ []
-RepeatsLong g l (x ∷ xs) = (a : List _) × (b : List _) × (l ≡ a ++ b) × g.whole a x × RepeatsLong g b xs × Ends g a b
+RepeatsLong g l (x ∷ xs) =
+    (a : List _) × (b : List _) × (l ≡ a ++ b) × g.whole a x × RepeatsLong g b xs × Ends g a b
 
 abbrev pub BegunLong : {T A : Type 0} → Part T A → List T → List A → Type 0
 BegunLong g l [] = g.begun l
-BegunLong g l (x ∷ xs) = (a : List _) × (b : List _) × (l ≡ a ++ b) × g.whole a x × BegunLong g b xs × Ends g a b
+BegunLong g l (x ∷ xs) =
+    (a : List _) × (b : List _) × (l ≡ a ++ b) × g.whole a x × BegunLong g b xs × Ends g a b
 
 unfoldable pub ManyLongWhole : {T A : Type 0} → Part T A → List T → List A → Type 0
 ManyLongWhole g l xs = RepeatsLong g l xs
@@ -150,7 +173,8 @@ unfoldable pub ManyLongBegun : {T A : Type 0} → Part T A → List T → Type 0
 ManyLongBegun g l = (xs : List _) × BegunLong g l xs
 
 abbrev pub many_long : {T A : Type 0} → Class T → Part T A → Part T (List A)
-many_long c g = record { whole = ManyLongWhole g; begun = ManyLongBegun g; read = read_many c g.read }
+many_long c g =
+    record { whole = ManyLongWhole g; begun = ManyLongBegun g; read = read_many c g.read }
 
 -- ---- a part that nothing derives: what stands inside a form where none may nest
 

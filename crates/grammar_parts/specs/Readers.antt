@@ -1,4 +1,5 @@
--- Readers of lists of tokens. A reader gives the value of what it took and what follows it, or where it stopped.
+-- Readers of lists of tokens. A reader gives the value of what it took and what follows it, or
+-- where it stopped.
 use Rattle.std.specs.Prelude.{ℕ, zero, suc, Bool, ◌&&◌, not, if◌then◌else◌, List, [], ◌∷◌, length, Result, Ok, Err}
 use Rattle.grammar_parts.specs.Tokens.{Class, sees, sees_two, rest_of}
 
@@ -36,14 +37,21 @@ read_alt c p q s = if sees c s then p s else q s
 abbrev pub read_unless : {T A : Type 0} → Class T → Reader T A → Reader T A
 read_unless c p s = if sees c s then Err s else p s
 
--- By two tokens of foresight. A token of the first class that begins no second part is still a beginning: reading stops behind it.
-abbrev pub read_ahead : {T A : Type 0} → Class T → Class T → Class T → Reader T A → Reader T A → Reader T A
-read_ahead c d first p q s = if sees_two c d s then p s else (if sees c s && not (sees first s) then Err (rest_of s) else q s)
+-- By two tokens of foresight. A token of the first class that begins no second part is still a
+-- beginning: reading stops behind it.
+abbrev pub read_ahead : {T A : Type 0} → Class T → Class T → Class T → Reader T A → Reader T A
+    → Reader T A
+read_ahead c d first p q s =
+    if sees_two c d s then p s
+    else (if sees c s && not (sees first s) then Err (rest_of s) else q s)
 
 -- as often as the class is seen, at most as many times as the number
 unfoldable pub read_times : {T A : Type 0} → ℕ → Class T → Reader T A → Reader T (List A)
 read_times zero c p s = Ok ([], s)
-read_times (suc n) c p s = if sees c s then and_then (p s) (λ x r. and_then (read_times n c p r) (λ xs r2. Ok (x ∷ xs, r2))) else Ok ([], s)
+read_times (suc n) c p s =
+    if sees c s
+    then and_then (p s) (λ x r. and_then (read_times n c p r) (λ xs r2. Ok (x ∷ xs, r2)))
+    else Ok ([], s)
 
 -- each turn takes a token
 unfoldable pub read_many : {T A : Type 0} → Class T → Reader T A → Reader T (List A)

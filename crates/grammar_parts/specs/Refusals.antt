@@ -12,7 +12,8 @@ pub record Reached {T A : Type 0} (g : Part T A) (tokens rest : List T) : Type 0
   pub stuck : Stuck g front rest
 
 -- The first token such that the tokens up to and with it begin nothing.
-pub record RefusedAt {T A : Type 0} (g : Part T A) (tokens front : List T) (token : T) (rest : List T) : Type 0 where
+pub record RefusedAt {T A : Type 0} (g : Part T A) (tokens front : List T) (token : T)
+    (rest : List T) : Type 0 where
   pub parts : tokens ≡ front ++ token ∷ rest
   pub begins : g.begun front
   pub first : g.begun (front ++ token ∷ []) → ⊥

@@ -91,7 +91,8 @@ impl<'a, T> Cursor<'a, T> {
 
     /// Takes a token of this class.
     pub fn expect<C: TokenClass<T>>(&mut self, class: C) -> Result<&'a T, Stop>
-        ensures { ReadsAs (λ t. t.now) (take_where (C.takes class) self.old.rest.now) result self.new.rest.now }
+        ensures { ReadsAs (λ t. t.now) (take_where (C.takes class) self.old.rest.now) result
+            self.new.rest.now }
     {
         self.take(self.sees(class))
     }

@@ -33,7 +33,8 @@ fn more<T, C: TokenClass<T>, R: Drop, G: Fn(&mut Cursor<'_, T>) -> Result<R, Sto
     cursor: &mut Cursor<'_, T>,
 ) -> Result<Vec<R>, Stop>
     requires { G.IsAlwaysCallable item }
-    ensures { Ended separated (C.takes class) (G.post item) found.items cursor.old.rest.now result cursor.new.rest.now }
+    ensures { Ended separated (C.takes class) (G.post item) found.items cursor.old.rest.now result
+        cursor.new.rest.now }
 {
     'turns: for turn in 0..cursor.left() {
         if !cursor.sees(class) {
@@ -53,7 +54,8 @@ pub fn repeat<T, C: TokenClass<T>, R: Drop, G: Fn(&mut Cursor<'_, T>) -> Result<
     cursor: &mut Cursor<'_, T>,
 ) -> Result<Vec<R>, Stop>
     requires { G.IsAlwaysCallable item }
-    ensures { Repeated (C.takes class) (G.post item) cursor.old.rest.now result cursor.new.rest.now }
+    ensures { Repeated (C.takes class) (G.post item) cursor.old.rest.now result
+        cursor.new.rest.now }
 {
     more(Vec::new(alloc), class, false, item, cursor)
 }
@@ -66,7 +68,8 @@ pub fn repeat_some<T, C: TokenClass<T>, R: Drop, G: Fn(&mut Cursor<'_, T>) -> Re
     cursor: &mut Cursor<'_, T>,
 ) -> Result<Vec<R>, Stop>
     requires { G.IsAlwaysCallable item }
-    ensures { Listed false (C.takes class) (G.post item) cursor.old.rest.now result cursor.new.rest.now }
+    ensures { Listed false (C.takes class) (G.post item) cursor.old.rest.now result
+        cursor.new.rest.now }
 {
     let found = one(alloc, item(cursor)?)?;
     more(found, class, false, item, cursor)
@@ -80,7 +83,8 @@ pub fn list<T, C: TokenClass<T>, R: Drop, G: Fn(&mut Cursor<'_, T>) -> Result<R,
     cursor: &mut Cursor<'_, T>,
 ) -> Result<Vec<R>, Stop>
     requires { G.IsAlwaysCallable item }
-    ensures { Listed true (C.takes separator) (G.post item) cursor.old.rest.now result cursor.new.rest.now }
+    ensures { Listed true (C.takes separator) (G.post item) cursor.old.rest.now result
+        cursor.new.rest.now }
 {
     let found = one(alloc, item(cursor)?)?;
     more(found, separator, true, item, cursor)

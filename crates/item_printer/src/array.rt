@@ -11,8 +11,10 @@ use item_tree::{Item, NoMemory};
 #[cycle(print)]
 #[tactic(auto, using(crate::proofs::Cuts::cuts))]
 pub(crate) fn print_array(items: &[Item], out: &mut Vec<u8>) -> Result<(), NoMemory>
-    ensures ok { OnOk result (out.new.items ≡ out.old.items ++ item_text (array_of_list (datums items.now))) }
-    ensures err { OnErr result (IsCut (item_text (array_of_list (datums items.now))) out.old.items out.new.items) }
+    ensures ok { OnOk result
+        (out.new.items ≡ out.old.items ++ item_text (array_of_list (datums items.now))) }
+    ensures err { OnErr result
+        (IsCut (item_text (array_of_list (datums items.now))) out.old.items out.new.items) }
 {
     let Some((first, more)) = items.split_first() else {
         return append(b"[]", out);
@@ -25,8 +27,10 @@ pub(crate) fn print_array(items: &[Item], out: &mut Vec<u8>) -> Result<(), NoMem
 // The values behind the first of an array, and its bracket.
 #[cycle(print)]
 fn print_more_values(items: &[Item], out: &mut Vec<u8>) -> Result<(), NoMemory>
-    ensures ok { OnOk result (out.new.items ≡ out.old.items ++ more_values_text (values (datums items.now))) }
-    ensures err { OnErr result (IsCut (more_values_text (values (datums items.now))) out.old.items out.new.items) }
+    ensures ok { OnOk result
+        (out.new.items ≡ out.old.items ++ more_values_text (values (datums items.now))) }
+    ensures err { OnErr result
+        (IsCut (more_values_text (values (datums items.now))) out.old.items out.new.items) }
 {
     for item in items {
         append_byte(b',', out)?;

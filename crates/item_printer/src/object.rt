@@ -13,8 +13,10 @@ use item_tree::{Item, NoMemory, Str};
 #[cycle(print)]
 #[tactic(auto, using(crate::proofs::Cuts::cuts))]
 pub(crate) fn print_object(pairs: &[(Str, Item)], out: &mut Vec<u8>) -> Result<(), NoMemory>
-    ensures ok { OnOk result (out.new.items ≡ out.old.items ++ item_text (object_of_pairs (pair_datums pairs.now))) }
-    ensures err { OnErr result (IsCut (item_text (object_of_pairs (pair_datums pairs.now))) out.old.items out.new.items) }
+    ensures ok { OnOk result
+        (out.new.items ≡ out.old.items ++ item_text (object_of_pairs (pair_datums pairs.now))) }
+    ensures err { OnErr result
+        (IsCut (item_text (object_of_pairs (pair_datums pairs.now))) out.old.items out.new.items) }
 {
     let Some((first, more)) = pairs.split_first() else {
         return append(b"{}", out);
@@ -27,8 +29,10 @@ pub(crate) fn print_object(pairs: &[(Str, Item)], out: &mut Vec<u8>) -> Result<(
 // The pairs behind the first of an object, and its brace.
 #[cycle(print)]
 fn print_more_pairs(pairs: &[(Str, Item)], out: &mut Vec<u8>) -> Result<(), NoMemory>
-    ensures ok { OnOk result (out.new.items ≡ out.old.items ++ more_members_text (members (pair_datums pairs.now))) }
-    ensures err { OnErr result (IsCut (more_members_text (members (pair_datums pairs.now))) out.old.items out.new.items) }
+    ensures ok { OnOk result
+        (out.new.items ≡ out.old.items ++ more_members_text (members (pair_datums pairs.now))) }
+    ensures err { OnErr result
+        (IsCut (more_members_text (members (pair_datums pairs.now))) out.old.items out.new.items) }
 {
     for pair in pairs {
         append_byte(b',', out)?;
@@ -39,8 +43,10 @@ fn print_more_pairs(pairs: &[(Str, Item)], out: &mut Vec<u8>) -> Result<(), NoMe
 
 #[cycle(print)]
 fn print_pair(pair: &(Str, Item), out: &mut Vec<u8>) -> Result<(), NoMemory>
-    ensures ok { OnOk result (out.new.items ≡ out.old.items ++ pair_text pair.now.0 (datum pair.now.1)) }
-    ensures err { OnErr result (IsCut (pair_text pair.now.0 (datum pair.now.1)) out.old.items out.new.items) }
+    ensures ok { OnOk result
+        (out.new.items ≡ out.old.items ++ pair_text pair.now.0 (datum pair.now.1)) }
+    ensures err { OnErr result
+        (IsCut (pair_text pair.now.0 (datum pair.now.1)) out.old.items out.new.items) }
 {
     print_string(&pair.0, out)?;
     append_byte(b':', out)?;

@@ -1,2 +1,3 @@
--- How the contracts of functions see the code. None of it is part of what a line or an input reads as.
+-- How the contracts of functions see the code. None of it is part of what a line or an input
+-- reads as.
 pub mod Items

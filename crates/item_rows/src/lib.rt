@@ -1,4 +1,5 @@
-//! Tests of item_tree, whose items they see as another crate does. There is nothing else in this crate.
+//! Tests of item_tree, whose items they see as another crate does. There is nothing else in this
+//! crate.
 #![tactic(auto)]
 
 #[cfg(test)]

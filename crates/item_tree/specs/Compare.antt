@@ -82,7 +82,8 @@ abbrev pub passes : (Datum → Bool) → Option Datum → Bool
 passes test None = false
 passes test (Some w) = test w
 
--- equal values: numbers by their units, arrays member by member, objects by equal keys with equal values in any order
+-- equal values: numbers by their units, arrays member by member, objects by equal keys with equal
+-- values in any order
 abbrev mutual
   pub equal : Datum → Datum → Bool
   equal null w = is_equal (compare_atoms null w)

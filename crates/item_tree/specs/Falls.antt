@@ -24,6 +24,8 @@ pub items_fall : (xs : List Item) → most deep-Item xs ≤ depth (array_of_list
 items_fall [] = omega arith
 items_fall (x ∷ xs) = omega (arith, items_fall xs, deep_le x)
 
-pub pairs_fall : (ps : List (List ℕ × Item)) → most (weighed-Pairs-pairs-at-2.weight Item deep-Item) ps ≤ depth (object_of_pairs (pair_datums ps))
+pub pairs_fall : (ps : List (List ℕ × Item))
+    → most (weighed-Pairs-pairs-at-2.weight Item deep-Item) ps ≤ depth
+    (object_of_pairs (pair_datums ps))
 pairs_fall [] = omega arith
 pairs_fall (p ∷ ps) = omega (arith, pairs_fall ps, deep_le p.1)

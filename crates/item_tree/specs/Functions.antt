@@ -71,7 +71,15 @@ signature DaysBetween = (codes "days-between", Exactly 2)
 
 -- all functions, in this order
 abbrev pub functions : List FnId
-functions = Count ∷ Empty ∷ Exists ∷ Head ∷ Tail ∷ Reverse ∷ Subsequence ∷ Subsequence3 ∷ InsertBefore ∷ Remove ∷ DistinctValues ∷ IndexOf ∷ DeepEqual ∷ Boolean ∷ ZeroOrOne ∷ OneOrMore ∷ ExactlyOne ∷ Keys ∷ Values ∷ Members ∷ Size ∷ Project ∷ RemoveKeys ∷ Flatten ∷ DescendantObjects ∷ DescendantArrays ∷ Accumulate ∷ Abs ∷ Floor ∷ Ceiling ∷ Round ∷ RoundHalfToEven ∷ Sum ∷ Avg ∷ Min ∷ Max ∷ String ∷ Concat ∷ StringJoin ∷ StringJoin2 ∷ StringLength ∷ Substring ∷ Substring3 ∷ Contains ∷ StartsWith ∷ EndsWith ∷ SubstringBefore ∷ SubstringAfter ∷ NormalizeSpace ∷ Tokenize ∷ Translate ∷ StringToCodepoints ∷ Serialize ∷ ParseJson ∷ Error ∷ YearFromDate ∷ MonthFromDate ∷ DayFromDate ∷ AddDays ∷ DaysBetween ∷ []
+functions =
+    Count ∷ Empty ∷ Exists ∷ Head ∷ Tail ∷ Reverse ∷ Subsequence ∷ Subsequence3 ∷ InsertBefore
+    ∷ Remove ∷ DistinctValues ∷ IndexOf ∷ DeepEqual ∷ Boolean ∷ ZeroOrOne ∷ OneOrMore ∷ ExactlyOne
+    ∷ Keys ∷ Values ∷ Members ∷ Size ∷ Project ∷ RemoveKeys ∷ Flatten ∷ DescendantObjects
+    ∷ DescendantArrays ∷ Accumulate ∷ Abs ∷ Floor ∷ Ceiling ∷ Round ∷ RoundHalfToEven ∷ Sum ∷ Avg
+    ∷ Min ∷ Max ∷ String ∷ Concat ∷ StringJoin ∷ StringJoin2 ∷ StringLength ∷ Substring ∷ Substring3
+    ∷ Contains ∷ StartsWith ∷ EndsWith ∷ SubstringBefore ∷ SubstringAfter ∷ NormalizeSpace
+    ∷ Tokenize ∷ Translate ∷ StringToCodepoints ∷ Serialize ∷ ParseJson ∷ Error ∷ YearFromDate
+    ∷ MonthFromDate ∷ DayFromDate ∷ AddDays ∷ DaysBetween ∷ []
 
 abbrev pub name_of : FnId → List ℕ
 name_of id = (signature id).0

@@ -7,7 +7,8 @@ use Rattle.item_tree.specs.Datum.{Datum, null, boolean, integer, decimal, text, 
 
 -- the point and the places behind it, for a number of units of 10^-6 below one
 abbrev pub fraction_text : ℕ → List ℕ
-fraction_text units = if units == 0 then [] else 46 ∷ without_last_zeros (drop 1 (digits_of (1000000 + units)))
+fraction_text units =
+    if units == 0 then [] else 46 ∷ without_last_zeros (drop 1 (digits_of (1000000 + units)))
 
 -- a number of units of 10^-6, without trailing zeros, and without a point where it is whole
 abbrev pub units_text : ℕ → List ℕ
@@ -75,7 +76,8 @@ abbrev mutual
   more_members_text no_members = 125 ∷ []
   more_members_text (member k v ms) = 44 ∷ string_text k ++ 58 ∷ item_text v ++ more_members_text ms
 
--- the characters of an atomic's text: of a string the string itself, and else the item's text, which is ASCII
+-- the characters of an atomic's text: of a string the string itself, and else the item's text,
+-- which is ASCII
 abbrev pub atom_text : Datum → List ℕ
 atom_text (text cs) = cs
 atom_text null = item_text null

@@ -1,4 +1,5 @@
--- Strings of JSON (RFC 8259, section 7): the pieces between the quotes, and the characters that they spell.
+-- Strings of JSON (RFC 8259, section 7): the pieces between the quotes, and the characters that
+-- they spell.
 use Rattle.std.specs.Prelude.{◌≡◌, ◌⊎◌, ℕ, ◌+◌, ◌-◌, ◌*◌, Bool, true, ◌||◌, ◌&&◌, not, if◌then◌else◌, ◌==◌, nat_le, nat_lt, List, [], ◌∷◌, ◌++◌, Option, Some, None}
 use Rattle.std.specs.Char.{digit_value, is_digit, encode_utf8}
 use Rattle.std.specs.Str.{encode_utf8_all, all_scalars}
@@ -27,17 +28,24 @@ short_escape x =
 -- the code unit of four hexadecimal digits
 unfoldable pub code_unit : ℕ → ℕ → ℕ → ℕ → Option ℕ
 code_unit a b c d =
-    if is_digit a 16 && is_digit b 16 && is_digit c 16 && is_digit d 16 then Some (digit_value a * 4096 + digit_value b * 256 + digit_value c * 16 + digit_value d) else None
+    if is_digit a 16 && is_digit b 16 && is_digit c 16 && is_digit d 16
+    then Some (digit_value a * 4096 + digit_value b * 256 + digit_value c * 16 + digit_value d)
+    else None
 
 -- the bytes up to the rest are this piece
 abbrev pub IsPiece : Piece → List ℕ → List ℕ → Type 0
-IsPiece (byte b) bytes rest = ((is_raw b ≡ true) × (bytes ≡ b ∷ rest)) ⊎ ((x : ℕ) × (short_escape x ≡ Some b) × (bytes ≡ 92 ∷ x ∷ rest))
-IsPiece (unit u) bytes rest = (a : ℕ) × (b : ℕ) × (c : ℕ) × (d : ℕ) × (code_unit a b c d ≡ Some u) × (bytes ≡ 92 ∷ 117 ∷ a ∷ b ∷ c ∷ d ∷ rest)
+IsPiece (byte b) bytes rest =
+    ((is_raw b ≡ true) × (bytes ≡ b ∷ rest))
+    ⊎ ((x : ℕ) × (short_escape x ≡ Some b) × (bytes ≡ 92 ∷ x ∷ rest))
+IsPiece (unit u) bytes rest =
+    (a : ℕ) × (b : ℕ) × (c : ℕ) × (d : ℕ) × (code_unit a b c d ≡ Some u)
+    × (bytes ≡ 92 ∷ 117 ∷ a ∷ b ∷ c ∷ d ∷ rest)
 
 -- the bytes up to the rest are these pieces and the closing quote
 abbrev pub ArePieces : List Piece → List ℕ → List ℕ → Type 0
 ArePieces [] bytes rest = bytes ≡ 34 ∷ rest
-ArePieces (p ∷ ps) bytes rest = (between : List ℕ) × IsPiece p bytes between × ArePieces ps between rest
+ArePieces (p ∷ ps) bytes rest =
+    (between : List ℕ) × IsPiece p bytes between × ArePieces ps between rest
 
 abbrev pub is_high_half : ℕ → Bool
 is_high_half u = nat_le 0xd800 u && nat_lt u 0xdc00

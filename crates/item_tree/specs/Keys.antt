@@ -29,10 +29,12 @@ rank (moment t) = 5
 abbrev pub total_order : Atom → Atom → Ordering
 total_order a b = unwrap_or (order a b) (nat_cmp (rank a) (rank b))
 
--- keys that stand for one atomic are the same key; keys are equal exactly where their atomics are, as keys of a grouping, and
--- where atomics compare, their keys stand in that order
+-- keys that stand for one atomic are the same key; keys are equal exactly where their atomics
+-- are, as keys of a grouping, and where atomics compare, their keys stand in that order
 pub record KeysAgree (eq : Key → Key → Bool) (cmp : Key → Key → Ordering) : Type 0 where
   pub exact : (k l : Key) → atom_of k ≡ atom_of l → k ≡ l
-  pub same : (v w : Datum) (k l : Key) → atom v ≡ Some (atom_of k) → atom w ≡ Some (atom_of l) → eq k l ≡ same_keys (Some v) (Some w)
-  pub ordered : (v w : Datum) (k l : Key) (o : Ordering) → atom v ≡ Some (atom_of k) → atom w ≡ Some (atom_of l) → compare_atoms v w ≡ Some o → cmp k l ≡ o
+  pub same : (v w : Datum) (k l : Key) → atom v ≡ Some (atom_of k) → atom w ≡ Some (atom_of l)
+      → eq k l ≡ same_keys (Some v) (Some w)
+  pub ordered : (v w : Datum) (k l : Key) (o : Ordering) → atom v ≡ Some (atom_of k)
+      → atom w ≡ Some (atom_of l) → compare_atoms v w ≡ Some o → cmp k l ≡ o
   pub total : (k l : Key) → cmp k l ≡ total_order (atom_of k) (atom_of l)

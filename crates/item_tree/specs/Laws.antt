@@ -14,7 +14,8 @@ use Rattle.item_tree.specs.Compare.{atom, compare_atoms, is_equal, same_keys, eq
 pub record IsEquivalenceOn {X : Type 0} (P : X → Type 0) (test : X → X → Bool) : Type 0 where
   pub reflexive : (x : X) → P x → test x x ≡ true
   pub symmetric : (x y : X) → P x → P y → test x y ≡ true → test y x ≡ true
-  pub transitive : (x y z : X) → P x → P y → P z → test x y ≡ true → test y z ≡ true → test x z ≡ true
+  pub transitive : (x y z : X) → P x → P y → P z → test x y ≡ true → test y z ≡ true
+      → test x z ≡ true
 
 -- a key of a grouping is one atomic or absent
 abbrev pub IsKey : Option Datum → Type 0
@@ -38,18 +39,23 @@ AtomicsCompare = (v w : Datum) → IsAtomic v → equal v w ≡ is_equal (compar
 pub record AtomicsAreOrdered : Type 0 where
   pub reflexive : (v : Datum) → IsAtomic v → compare_atoms v v ≡ Some Equal
   pub reversed : (v w : Datum) → compare_atoms w v ≡ option_map ordering_reverse (compare_atoms v w)
-  pub transitive : (v w x : Datum) → compare_atoms v w ≡ Some Less → compare_atoms w x ≡ Some Less → compare_atoms v x ≡ Some Less
+  pub transitive : (v w x : Datum) → compare_atoms v w ≡ Some Less → compare_atoms w x ≡ Some Less
+      → compare_atoms v x ≡ Some Less
   pub exact : (v w : Datum) → compare_atoms v w ≡ Some Equal → atom v ≡ atom w
-  pub total : (v w : Datum) (k : Class) → class_of v ≡ Some k → class_of w ≡ Some k → IsSome (compare_atoms v w)
-  pub apart : (v w : Datum) → is_null v ≡ false → is_null w ≡ false → class_of v ≢ class_of w → compare_atoms v w ≡ None
+  pub total : (v w : Datum) (k : Class) → class_of v ≡ Some k → class_of w ≡ Some k
+      → IsSome (compare_atoms v w)
+  pub apart : (v w : Datum) → is_null v ≡ false → is_null w ≡ false → class_of v ≢ class_of w
+      → compare_atoms v w ≡ None
   pub atomic : (v w : Datum) → IsSome (compare_atoms v w) → IsAtomic v × IsAtomic w
-  pub lowest : (v : Datum) → IsAtomic v → compare_atoms null v ≡ Some (if is_null v then Equal else Less)
+  pub lowest : (v : Datum) → IsAtomic v
+      → compare_atoms null v ≡ Some (if is_null v then Equal else Less)
 
--- the first of January 1970 has the day number 0, and dates compare as their day numbers do; so no two dates
--- have one day number
+-- the first of January 1970 has the day number 0, and dates compare as their day numbers do; so
+-- no two dates have one day number
 pub record DaysAreNumbered : Type 0 where
   pub first : day_number first_of_1970 ≡ pos 0
-  pub ordered : (d e : Date) → IsDate d → IsDate e → date_cmp d e ≡ int_cmp (day_number d) (day_number e)
+  pub ordered : (d e : Date) → IsDate d → IsDate e
+      → date_cmp d e ≡ int_cmp (day_number d) (day_number e)
 
 abbrev pub greatest : List ℕ → ℕ
 greatest [] = 0
@@ -58,11 +64,16 @@ greatest (n ∷ ns) = max n (greatest ns)
 -- an array or an object is one deeper than the deepest inside, and no item is deeper than 128
 pub record DepthsAreKept : Type 0 where
   pub of_array : (vs : List Datum) → depth (array_of_list vs) ≡ greatest (map depth vs) + 1
-  pub of_object : (ps : List (List ℕ × Datum)) → depth (object_of_pairs ps) ≡ greatest (map (λ p. depth p.1) ps) + 1
+  pub of_object : (ps : List (List ℕ × Datum))
+      → depth (object_of_pairs ps) ≡ greatest (map (λ p. depth p.1) ps) + 1
   pub bounded : (v : Datum) → Sound v → depth v ≤ 128
 
--- what is found bears the name and takes so many arguments, each function is found so, and no two are called alike
+-- what is found bears the name and takes so many arguments, each function is found so, and no two
+-- are called alike
 pub record FunctionsAreFound : Type 0 where
-  pub named : (name : List ℕ) (count : ℕ) (id : FnId) → function_named name count ≡ Some id → (name_of id ≡ name) × (takes_arity id count ≡ true)
-  pub found : (id : FnId) (count : ℕ) → takes_arity id count ≡ true → function_named (name_of id) count ≡ Some id
-  pub apart : (id other : FnId) (count : ℕ) → name_of id ≡ name_of other → takes_arity id count ≡ true → takes_arity other count ≡ true → id ≡ other
+  pub named : (name : List ℕ) (count : ℕ) (id : FnId) → function_named name count ≡ Some id
+      → (name_of id ≡ name) × (takes_arity id count ≡ true)
+  pub found : (id : FnId) (count : ℕ) → takes_arity id count ≡ true
+      → function_named (name_of id) count ≡ Some id
+  pub apart : (id other : FnId) (count : ℕ) → name_of id ≡ name_of other
+      → takes_arity id count ≡ true → takes_arity other count ≡ true → id ≡ other

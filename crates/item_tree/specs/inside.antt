@@ -1,4 +1,5 @@
--- How contracts of private functions see the code. No reader of the language, and no caller, needs these.
+-- How contracts of private functions see the code. No reader of the language, and no caller,
+-- needs these.
 pub mod Written
 pub mod StrBytes
 pub mod DateOrder

@@ -7,8 +7,8 @@ use crate::{Day, Item, Moment, Pairs, Str};
 use std::cmp::Ordering;
 
 /// How two atomics compare: numbers by their value, strings by code points, dates and date-times by
-/// time, false before true, and null before all else. `None` exactly where one is no atomic, or where
-/// their classes (string, number, boolean, date, date-time) differ and neither is null.
+/// time, false before true, and null before all else. `None` exactly where one is no atomic, or
+/// where their classes (string, number, boolean, date, date-time) differ and neither is null.
 pub fn cmp_atoms(a: &Item, b: &Item) -> Option<Ordering>
     ensures { result ≡ compare_atoms (datum a.now) (datum b.now) }
 {
@@ -27,7 +27,9 @@ pub fn cmp_atoms(a: &Item, b: &Item) -> Option<Ordering>
 /// Whether two keys of a grouping, each one atomic or absent, are the same: both absent, or both
 /// present and equal.
 pub fn same_key(a: Option<&Item>, b: Option<&Item>) -> bool
-    ensures { result ≡ same_keys (option_map (λ x. datum x.now) a.entry) (option_map (λ x. datum x.now) b.entry) }
+    ensures { result
+        ≡ same_keys (option_map (λ x. datum x.now) a.entry)
+        (option_map (λ x. datum x.now) b.entry) }
 {
     match a {
         None => b.is_none(),
@@ -38,8 +40,8 @@ pub fn same_key(a: Option<&Item>, b: Option<&Item>) -> bool
     }
 }
 
-/// Whether two sequences have equal items in order: numbers by their value, arrays member by member,
-/// and objects by equal keys with equal values in any order.
+/// Whether two sequences have equal items in order: numbers by their value, arrays member by
+/// member, and objects by equal keys with equal values in any order.
 #[cycle(equal)]
 pub fn deep_equal(a: &[Item], b: &[Item]) -> bool
     ensures { result ≡ equal_lists (datums a.now) (datums b.now) }

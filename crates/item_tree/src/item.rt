@@ -51,7 +51,9 @@ impl Model for Items {
 
     ghost view = { λ a. datums (arc_value a.items).items };
 
-    ghost invariant = { λ a. (a.depth ≡ depth_of (array_of_list (datums (arc_value a.items).items))) × Sound (array_of_list (datums (arc_value a.items).items)) };
+    ghost invariant = { λ a.
+        (a.depth ≡ depth_of (array_of_list (datums (arc_value a.items).items)))
+        × Sound (array_of_list (datums (arc_value a.items).items)) };
 
     ghost size = { λ vs. depth_of (array_of_list vs) };
 
@@ -88,7 +90,9 @@ impl Model for Pairs {
 
     ghost view = { λ a. pair_datums (arc_value a.pairs).items };
 
-    ghost invariant = { λ a. IsObjectKept a.depth (option_map arc_value a.places) (pair_datums (arc_value a.pairs).items) };
+    ghost invariant = { λ a.
+        IsObjectKept a.depth (option_map arc_value a.places)
+        (pair_datums (arc_value a.pairs).items) };
 
     ghost size = { λ ps. depth_of (object_of_pairs ps) };
 
@@ -134,8 +138,8 @@ impl Pairs {
         self.pairs.as_slice()
     }
 
-    /// The value at this key. The time grows with the logarithm of the number of pairs, whatever the
-    /// keys are.
+    /// The value at this key. The time grows with the logarithm of the number of pairs, whatever
+    /// the keys are.
     pub fn get(&self, key: &Str) -> Option<&Item>
         ensures { option_map (λ x. datum x.now) result ≡ lookup key.now self.now }
     {

@@ -132,7 +132,8 @@ impl Hash for Str {
 
     ghost hash_input = { λ s. fed.str (encode_utf8_all s) };
 
-    ghost respects_eq = { λ x y e. ap (λ s. fed.str (encode_utf8_all s)) ((bytes_eq-Decides x y).0 e) };
+    ghost respects_eq = { λ x y e.
+        ap (λ s. fed.str (encode_utf8_all s)) ((bytes_eq-Decides x y).0 e) };
 
     fn hash<H: Hasher>(&self, state: &mut H) {
         self.as_str().hash(state);

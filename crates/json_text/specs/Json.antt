@@ -40,8 +40,8 @@ abbrev pub HasDigits : Option (List ℕ) → Type 0
 HasDigits None = Unit {0}
 HasDigits (Some ds) = 0 < length ds
 
--- a numeral, without what JSON refuses: a plus in front, a zero before other digits, a point with no
--- digit at a side of it
+-- a numeral, without what JSON refuses: a plus in front, a zero before other digits, a point with
+-- no digit at a side of it
 pub record IsJsonNumber (n : Numeral) (l r : List ℕ) : Type 0 where
   pub numeral : IsNumeral n l r
   pub sign : IsMinusOrNone n.sign

@@ -31,8 +31,8 @@ abbrev pub put_all : List (List ℕ × Datum) → List (List ℕ × Datum) → L
 put_all done [] = done
 put_all done (p ∷ ps) = put_all (put p.0 p.1 done) ps
 
--- the object of all the pairs of a text: a repeated key has the first one's place and the last one's
--- value
+-- the object of all the pairs of a text: a repeated key has the first one's place and the last
+-- one's value
 abbrev pub object_of_fields : List (List ℕ × Datum) → Datum
 object_of_fields ps = object_of_pairs (put_all [] ps)
 
@@ -40,8 +40,8 @@ abbrev pub number_datum : Number → Datum
 number_datum (Int n) = integer n
 number_datum (Dec m) = decimal m
 
--- an integer where the numeral has neither point nor exponent, and else the nearest decimal; or it is
--- out of bounds
+-- an integer where the numeral has neither point nor exponent, and else the nearest decimal; or
+-- it is out of bounds
 abbrev pub NumberGives : Numeral → Outcome Datum → Type 0
 NumberGives n (Ok x) = (a : Number) × Says n a × NumberInBounds a × (x ≡ number_datum a)
 NumberGives n (Err t) = (a : Number) × Says n a × (¬ NumberInBounds a) × (t ≡ number_out)

@@ -7,7 +7,9 @@ use Rattle.item_tree.specs.Datum.{Datum, null, boolean, integer, decimal, text, 
 
 -- of a number of units of 10^-6
 abbrev pub plain_decimal : ℤ → Datum
-plain_decimal m = if unsigned_abs m % 1000000 == 0 then integer (with_sign (is_negative m) (unsigned_abs m / 1000000)) else decimal m
+plain_decimal m =
+    if unsigned_abs m % 1000000 == 0
+    then integer (with_sign (is_negative m) (unsigned_abs m / 1000000)) else decimal m
 
 abbrev mutual
   pub plain : Datum → Datum

@@ -1,5 +1,5 @@
-//! Texts of JSON: what they are, what a line of them reads as, and the laws of both; and the escapes
-//! in their strings.
+//! Texts of JSON: what they are, what a line of them reads as, and the laws of both; and the
+//! escapes in their strings.
 #![tactic(auto)]
 
 mod escapes;

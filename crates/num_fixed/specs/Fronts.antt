@@ -1,5 +1,6 @@
 -- The longest number at the front of a text, told by where each of its parts ends: a minus or none;
--- digits; a point and digits, or none; and an exponent, or none. A digit stands before the exponent.
+-- digits; a point and digits, or none; and an exponent, or none. A digit stands before the
+-- exponent.
 use Rattle.std.specs.Prelude.{◌≡◌, ◌<◌, ℕ, ◌+◌, ◌==◌, ◌||◌, ◌&&◌, nat_lt, Bool, true, if◌then◌else◌, List, [], ◌∷◌, length, take, drop, Option, Some, None}
 use Rattle.num_fixed.specs.Numeral.{Sign, none, plus, minus, Numeral, IsNumeral}
 use Rattle.num_fixed.specs.Scan.{behind_sign, digits_len}

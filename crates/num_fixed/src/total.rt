@@ -27,7 +27,8 @@ impl Model for Total {
 
     ghost view = { λ t. record { units = t.units; count = t.count; whole = t.whole } };
 
-    ghost invariant = { λ t. IsKept (record { units = t.units; count = t.count; whole = t.whole }) };
+    ghost invariant = { λ t.
+        IsKept (record { units = t.units; count = t.count; whole = t.whole }) };
 
     ghost inverse = { λ t. record { units = t.units; count = t.count; whole = t.whole } };
 }

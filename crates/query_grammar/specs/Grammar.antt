@@ -1,11 +1,11 @@
--- The grammar of queries, production by production. Each part has the language that derives it, with
--- its tree, what begins it, and its reader.
+-- The grammar of queries, production by production. Each part has the language that derives it,
+-- with its tree, what begins it, and its reader.
 --
 -- The mode `m` tells whether the forms are taken that are refused by a code of their own (`m.wide`;
--- their trees are never used) and whether a form may nest here (`m.room`). `inner` are the parts that
--- stand inside a form. In a sequence marked `long` a token that can belong to the first part does.
--- The class in `alt`, `opt`, `many` and `some_of` is what the reader looks for: the first tokens of
--- the part behind it. It is no part of what derives or begins.
+-- their trees are never used) and whether a form may nest here (`m.room`). `inner` are the parts
+-- that stand inside a form. In a sequence marked `long` a token that can belong to the first part
+-- does. The class in `alt`, `opt`, `many` and `some_of` is what the reader looks for: the first
+-- tokens of the part behind it. It is no part of what derives or begins.
 use Rattle.std.specs.Prelude.{ℕ, Bool, true, false, List, Option}
 use Rattle.seq_types.specs.declared.types.Times.{Times}
 use Rattle.query_tree.specs.declared.names.Placed.{Placed}
@@ -127,7 +127,9 @@ module _ (m : Mode) (inner : Inner Word Part Tree) where
 
   -- an argument; the wider grammar also has "?"
   unfoldable pub argument : Lang Tree
-  argument = alt (single_first m.wide m.room_in) (inner i.Single) (only m.wide (mapped n.unused (tok k.Question)))
+  argument =
+      alt (single_first m.wide m.room_in) (inner i.Single)
+      (only m.wide (mapped n.unused (tok k.Question)))
 
   -- Single { "," Single }
   unfoldable pub argument_list : Lang (List Tree)
@@ -154,7 +156,13 @@ module _ (m : Mode) (inner : Inner Word Part Tree) where
   inline_function = only m.wide (mapped n.inline_function (seq (tok k.Function) (tok k.OpenParen)))
 
   unfoldable pub primary : Lang Tree
-  primary = alt (is_literal m.wide) literal (alt (given m.room (is k.OpenParen)) paren (alt (given m.room (is k.OpenBrace)) object (alt (given m.room (is k.OpenMerge)) merge (alt (given m.room (is k.OpenBracket)) array (alt (given m.room is_call_name) call inline_function)))))
+  primary =
+      alt (is_literal m.wide) literal
+      (alt (given m.room (is k.OpenParen)) paren
+      (alt (given m.room (is k.OpenBrace)) object
+      (alt (given m.room (is k.OpenMerge)) merge
+      (alt (given m.room (is k.OpenBracket)) array
+      (alt (given m.room is_call_name) call inline_function)))))
 
   -- ---- steps
 
@@ -164,15 +172,23 @@ module _ (m : Mode) (inner : Inner Word Part Tree) where
 
   -- "[" Expr "]" "]"
   unfoldable pub member : Lang (ℕ → Step)
-  member = only m.room (mapped n.member (before k.OpenBracket (behind (behind (inner i.Expr) k.CloseBracket) k.CloseBracket)))
+  member =
+      only m.room
+      (mapped n.member
+      (before k.OpenBracket (behind (behind (inner i.Expr) k.CloseBracket) k.CloseBracket)))
 
   -- Expr "]", where the expression doesn't begin with "["
   unfoldable pub filter : Lang (ℕ → Step)
-  filter = only m.room (mapped n.filter (behind (unless (is k.OpenBracket) (inner i.Expr)) k.CloseBracket))
+  filter =
+      only m.room
+      (mapped n.filter (behind (unless (is k.OpenBracket) (inner i.Expr)) k.CloseBracket))
 
   -- "[" "]" | "[" "[" Expr "]" "]" | "[" Expr "]"
   unfoldable pub bracket_step : Lang Step
-  bracket_step = mapped n.step_at (from k.OpenBracket (alt (is k.CloseBracket) members (alt (given m.room (is k.OpenBracket)) member filter)))
+  bracket_step =
+      mapped n.step_at
+      (from k.OpenBracket
+      (alt (is k.CloseBracket) members (alt (given m.room (is k.OpenBracket)) member filter)))
 
   -- Name | Text | Var | Context
   unfoldable pub plain_key : Lang Lookup
@@ -355,7 +371,9 @@ module _ (m : Mode) (inner : Inner Word Part Tree) where
 
   -- ForVar = Var [ "as" SeqType ] [ "allowing" "empty" ] [ "at" Var ] "in" Single
   unfoldable pub for_var : Lang Clause
-  for_var = mapped n.for_var (seq variable (seq as_type (seq allowing (seq at_variable (before k.In (inner i.Single))))))
+  for_var =
+      mapped n.for_var
+      (seq variable (seq as_type (seq allowing (seq at_variable (before k.In (inner i.Single))))))
 
   -- "tumbling" | "sliding", in the wider grammar
   unfoldable pub window : Lang (List Clause)
@@ -427,7 +445,9 @@ module _ (m : Mode) (inner : Inner Word Part Tree) where
 
   -- Order = [ "stable" ] "order" "by" Key { "," Key }
   unfoldable pub order_clause : Lang Clause
-  order_clause = alt (is k.Stable) (mapped (n.order_clause true) (from k.Stable (before k.Order order_keys))) (mapped (n.order_clause false) (from k.Order order_keys))
+  order_clause =
+      alt (is k.Stable) (mapped (n.order_clause true) (from k.Stable (before k.Order order_keys)))
+      (mapped (n.order_clause false) (from k.Order order_keys))
 
   -- Count = "count" Var
   unfoldable pub count_clause : Lang Clause
@@ -435,11 +455,14 @@ module _ (m : Mode) (inner : Inner Word Part Tree) where
 
   -- Keep | Group | Order | Count
   unfoldable pub one_clause : Lang Clause
-  one_clause = alt (is k.Where) keep_clause (alt (is k.Group) group_clause (alt order_clause_first order_clause count_clause))
+  one_clause =
+      alt (is k.Where) keep_clause
+      (alt (is k.Group) group_clause (alt order_clause_first order_clause count_clause))
 
   -- For | Let | Keep | Group | Order | Count
   unfoldable pub clause : Lang (List Clause)
-  clause = alt first_clause_first (mapped n.clauses_of first_clause) (mapped n.just_clause one_clause)
+  clause =
+      alt first_clause_first (mapped n.clauses_of first_clause) (mapped n.just_clause one_clause)
 
   -- ---- statements
 
@@ -453,7 +476,8 @@ module _ (m : Mode) (inner : Inner Word Part Tree) where
 
   -- Flwor = ( For | Let ) { For | Let | Keep | Group | Order | Count } "return" Single
   unfoldable pub flwor : Lang Tree
-  flwor = only m.room (mapped n.flwor (seq first_clause (seq clauses (from k.Return (inner i.Single)))))
+  flwor =
+      only m.room (mapped n.flwor (seq first_clause (seq clauses (from k.Return (inner i.Single)))))
 
   -- Bind = Var [ "as" SeqType ] "in" Single
   unfoldable pub bind : Lang Bind
@@ -465,7 +489,9 @@ module _ (m : Mode) (inner : Inner Word Part Tree) where
 
   -- Quant = ( "some" | "every" ) Bind { "," Bind } "satisfies" Single
   unfoldable pub quant : Lang Tree
-  quant = only m.room (mapped n.quant (seq (one is_quantifier) (seq binds (before k.Satisfies (inner i.Single)))))
+  quant =
+      only m.room
+      (mapped n.quant (seq (one is_quantifier) (seq binds (before k.Satisfies (inner i.Single)))))
 
   -- "case" Single
   unfoldable pub case_test : Lang Tree
@@ -485,7 +511,9 @@ module _ (m : Mode) (inner : Inner Word Part Tree) where
 
   -- Switch = "switch" "(" Expr ")" Case { Case } "default" "return" Single
   unfoldable pub switch : Lang Tree
-  switch = only m.room (mapped n.switch (from k.Switch (seq in_parens (seq cases (before k.Default returned)))))
+  switch =
+      only m.room
+      (mapped n.switch (from k.Switch (seq in_parens (seq cases (before k.Default returned)))))
 
   -- SeqType { "|" SeqType }
   unfoldable pub seq_types : Lang (List Type')
@@ -513,11 +541,17 @@ module _ (m : Mode) (inner : Inner Word Part Tree) where
 
   -- Typeswitch = "typeswitch" "(" Expr ")" TCase { TCase } "default" [ Var ] "return" Single
   unfoldable pub typeswitch : Lang Tree
-  typeswitch = only m.room (mapped n.typeswitch (from k.Typeswitch (seq in_parens (seq type_cases type_default))))
+  typeswitch =
+      only m.room
+      (mapped n.typeswitch (from k.Typeswitch (seq in_parens (seq type_cases type_default))))
 
   -- If = "if" "(" Expr ")" "then" Single "else" Single
   unfoldable pub if : Lang Tree
-  if = only m.room (mapped n.if (from k.If (seq in_parens (seq (before k.Then (inner i.Single)) (before k.Else (inner i.Single))))))
+  if =
+      only m.room
+      (mapped n.if
+      (from k.If
+      (seq in_parens (seq (before k.Then (inner i.Single)) (before k.Else (inner i.Single))))))
 
   -- Name { "|" Name }
   unfoldable pub catch_names : Lang (List Word)
@@ -541,7 +575,12 @@ module _ (m : Mode) (inner : Inner Word Part Tree) where
 
   -- Single = Flwor | Quant | Switch | Typeswitch | If | Try | Or
   unfoldable pub single : Lang Tree
-  single = alt (flwor_first m.room) flwor (alt (given m.room is_quantifier) quant (alt (given m.room (is k.Switch)) switch (alt (given m.room (is k.Typeswitch)) typeswitch (alt (given m.room (is k.If)) if (alt (given m.room (is k.Try)) try or_level)))))
+  single =
+      alt (flwor_first m.room) flwor
+      (alt (given m.room is_quantifier) quant
+      (alt (given m.room (is k.Switch)) switch
+      (alt (given m.room (is k.Typeswitch)) typeswitch
+      (alt (given m.room (is k.If)) if (alt (given m.room (is k.Try)) try or_level)))))
 
   -- "," Single
   unfoldable pub comma_operand : Lang Operand
@@ -569,7 +608,9 @@ module _ (m : Mode) (top : Inner Word Part Tree) where
 
   -- Variable = "declare" "variable" Var [ "as" SeqType ] ":=" Single
   unfoldable pub variable_declaration : Lang Declaration
-  variable_declaration = mapped n.variable_declaration (before k.Variable (seq variable (seq as_type (before k.Assign (top i.Single)))))
+  variable_declaration =
+      mapped n.variable_declaration
+      (before k.Variable (seq variable (seq as_type (before k.Assign (top i.Single)))))
 
   -- Param { "," Param }
   unfoldable pub param_list : Lang (List (Param Name TypeName))
@@ -587,13 +628,18 @@ module _ (m : Mode) (top : Inner Word Part Tree) where
   unfoldable pub function_body : Lang Tree
   function_body = before k.OpenBrace (behind (top i.Expr) k.CloseBrace)
 
-  -- Function = "declare" "function" Name "(" [ Param { "," Param } ] ")" [ "as" SeqType ] "{" Expr "}"
+  -- Function = "declare" "function" Name "(" [ Param { "," Param } ] ")" [ "as" SeqType ] "{"
+  -- Expr "}"
   unfoldable pub function_declaration : Lang Declaration
-  function_declaration = mapped n.function_declaration (before k.Function (seq (one is_name) (seq params (seq as_type function_body))))
+  function_declaration =
+      mapped n.function_declaration
+      (before k.Function (seq (one is_name) (seq params (seq as_type function_body))))
 
   -- ( Variable | Function ) ";"
   unfoldable pub declaration : Lang Declaration
-  declaration = before k.Declare (behind (alt (is k.Variable) variable_declaration function_declaration) k.Semicolon)
+  declaration =
+      before k.Declare
+      (behind (alt (is k.Variable) variable_declaration function_declaration) k.Semicolon)
 
   -- { ( Variable | Function ) ";" }
   unfoldable pub declarations : Lang (List Declaration)

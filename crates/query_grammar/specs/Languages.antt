@@ -50,7 +50,8 @@ unless c part = g.unless (of_kind c) part
 
 -- the first part where a token of the first class and then one of the second are next, and else the
 -- second, whose first tokens are the third class
-abbrev pub ahead : {A : Type 0} → (Kind → Bool) → (Kind → Bool) → (Kind → Bool) → Lang A → Lang A → Lang A
+abbrev pub ahead : {A : Type 0} → (Kind → Bool) → (Kind → Bool) → (Kind → Bool) → Lang A → Lang A
+    → Lang A
 ahead c d first a b = g.ahead (of_kind c) (of_kind d) (of_kind first) a b
 
 -- a token, and then a part

@@ -187,7 +187,10 @@ times_of None = times.One
 times_of (Some w) = times_by w.kind
 
 abbrev pub type_of : Word → Bool → Times → Type'
-type_of w parens times = record { place = w.place; name = record { name = text_in w.value; parens = parens; times = times } }
+type_of w parens times = record {
+  place = w.place;
+  name = record { name = text_in w.value; parens = parens; times = times };
+}
 
 abbrev pub item_type : Word × (Bool × Times) → Type'
 item_type z = type_of z.0 z.1.0 z.1.1
@@ -281,7 +284,8 @@ unused_step w = p.members_step w.place
 
 abbrev pub postfix : Tree × List Step → Tree
 postfix (primary, []) = primary
-postfix (primary, x ∷ xs) = node_at primary (p.postfix_form primary (p.steps_of Name Name TypeName (x ∷ xs)))
+postfix (primary, x ∷ xs) =
+    node_at primary (p.postfix_form primary (p.steps_of Name Name TypeName (x ∷ xs)))
 
 -- ---- operators; a level without an operator makes no node
 
@@ -309,7 +313,8 @@ factor z = p.factor_node (product_op z.0.kind) z.0.place z.1
 
 abbrev pub product : Tree × List Factor → Tree
 product (first, []) = first
-product (first, x ∷ xs) = node_at first (p.product_form first (p.factors_of Name Name TypeName (x ∷ xs)))
+product (first, x ∷ xs) =
+    node_at first (p.product_form first (p.factors_of Name Name TypeName (x ∷ xs)))
 
 abbrev pub term : Word × Tree → Term
 term z = p.term_node (sum_op z.0.kind) z.0.place z.1
@@ -388,13 +393,17 @@ just_clause c = c ∷ []
 -- ---- statements
 
 abbrev pub flwor : (ℕ × List Clause) × (List (List Clause) × (ℕ × Tree)) → Tree
-flwor z = p.tree_node z.0.0 (p.flwor_form (p.clauses_of Name Name TypeName (z.0.1 ++ concat z.1.0)) z.1.1.0 z.1.1.1)
+flwor z =
+    p.tree_node z.0.0
+    (p.flwor_form (p.clauses_of Name Name TypeName (z.0.1 ++ concat z.1.0)) z.1.1.0 z.1.1.1)
 
 abbrev pub bind : Placed Name × (Option Type' × Tree) → Bind
 bind z = p.bind_node z.0 z.1.0 z.1.1
 
 abbrev pub quant : Word × (List Bind × Tree) → Tree
-quant z = p.tree_node z.0.place (p.quant_form (quantifier_of z.0.kind) (p.binds_of Name Name TypeName z.1.0) z.1.1)
+quant z =
+    p.tree_node z.0.place
+    (p.quant_form (quantifier_of z.0.kind) (p.binds_of Name Name TypeName z.1.0) z.1.1)
 
 abbrev pub case : List Tree × Tree → Case
 case z = p.case_node (trees z.0) z.1
@@ -406,7 +415,9 @@ abbrev pub type_case : Option (Placed Name) × (List Type' × Tree) → TypeCase
 type_case z = p.type_case_node z.0 z.1.0 z.1.1
 
 abbrev pub typeswitch : ℕ × (Tree × (List TypeCase × (Option (Placed Name) × Tree))) → Tree
-typeswitch z = p.tree_node z.0 (p.typeswitch_form z.1.0 (p.type_cases_of Name Name TypeName z.1.1.0) z.1.1.1.0 z.1.1.1.1)
+typeswitch z =
+    p.tree_node z.0
+    (p.typeswitch_form z.1.0 (p.type_cases_of Name Name TypeName z.1.1.0) z.1.1.1.0 z.1.1.1.1)
 
 abbrev pub if : ℕ × (Tree × (Tree × Tree)) → Tree
 if z = p.tree_node z.0 (p.if_form z.1.0 z.1.1.0 z.1.1.1)
@@ -436,8 +447,10 @@ pub data Declaration : Type 0 where
 abbrev pub variable_declaration : Placed Name × (Option Type' × Tree) → Declaration
 variable_declaration z = of_variable (record { variable = z.0; type = z.1.0; value = z.1.1 })
 
-abbrev pub function_declaration : Word × (List (Param Name TypeName) × (Option Type' × Tree)) → Declaration
-function_declaration z = of_function (record { function = placed z.0; params = z.1.0; type = z.1.1.0; body = z.1.1.1 })
+abbrev pub function_declaration : Word × (List (Param Name TypeName) × (Option Type' × Tree))
+    → Declaration
+function_declaration z =
+    of_function (record { function = placed z.0; params = z.1.0; type = z.1.1.0; body = z.1.1.1 })
 
 abbrev pub variables_in : List Declaration → List Variable
 variables_in [] = []

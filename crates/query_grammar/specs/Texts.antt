@@ -1,4 +1,5 @@
--- What a list of words is as a whole query: the tree that it derives, or where and why it is refused.
+-- What a list of words is as a whole query: the tree that it derives, or where and why it is
+-- refused.
 use Rattle.std.specs.Prelude.{◌≡◌, ◌⊎◌, ℕ, suc, Bool, true, false, List, [], ◌∷◌, ◌++◌}
 use Rattle.item_tree.specs.declared.code.Code.{Code}
 use Rattle.item_tree.specs.declared.code.Code.TheVariants as c
@@ -13,8 +14,8 @@ use Rattle.query_grammar.specs.Grammar.{forms, module_part}
 abbrev pub max_nesting : ℕ
 max_nesting = 100
 
--- a module where so many forms may nest, in the grammar or, if `wide`, in the wider one, which has the
--- forms too that are refused by a code of their own
+-- a module where so many forms may nest, in the grammar or, if `wide`, in the wider one, which
+-- has the forms too that are refused by a code of their own
 abbrev pub part_of : Bool → ℕ → Part Word Module
 part_of wide n = module_part (mode_at wide (suc n)) (level forms wide n)
 
@@ -38,13 +39,15 @@ Begins wide n words = (part_of wide n).begun words
 abbrev pub BeginsWithoutBound : Bool → List Word → Type 0
 BeginsWithoutBound wide words = BeginsUnbounded (part_of wide) words
 
--- why the last of these words goes on with no beginning: a form stands too deep, or it is of the wider
--- grammar alone, or of neither
+-- why the last of these words goes on with no beginning: a form stands too deep, or it is of the
+-- wider grammar alone, or of neither
 abbrev pub IsCodeOf : Code → List Word → Type 0
 IsCodeOf code words =
     ((code ≡ c.PJST0003) × BeginsWithoutBound false words)
     ⊎ (((code ≡ c.PJST0001) × (BeginsWithoutBound false words → ⊥) × BeginsWithoutBound true words)
-    ⊎ ((code ≡ c.XPST0003) × (BeginsWithoutBound false words → ⊥) × (BeginsWithoutBound true words → ⊥)))
+    ⊎
+    ((code ≡ c.XPST0003) × (BeginsWithoutBound false words → ⊥)
+    × (BeginsWithoutBound true words → ⊥)))
 
 -- the first word such that the words up to and with it begin no module
 pub record IsRefusedAt (words : List Word) (code : Code) (place : ℕ) : Type 0 where

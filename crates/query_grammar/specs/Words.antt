@@ -136,7 +136,10 @@ kind_in [] other w = other
 kind_in (r ∷ rows) other w = if bytes_eq w r.spelled then r.kind else kind_in rows other w
 
 abbrev pub name_kind : List ℕ → Kind
-name_kind w = kind_in declaration_keywords (kind_in clause_keywords (kind_in statement_keywords (kind_in operator_keywords k.Name w) w) w) w
+name_kind w =
+    kind_in declaration_keywords
+    (kind_in clause_keywords (kind_in statement_keywords (kind_in operator_keywords k.Name w) w) w)
+    w
 
 abbrev pub mark_kind : List ℕ → Kind
 mark_kind w = kind_in marks k.Question w
@@ -146,8 +149,12 @@ abbrev pub Means : TokenKind → List ℕ → Kind → Value → Type 0
 Means t.Name w kind value = (kind ≡ name_kind w) × (value ≡ v.Text (chars w))
 Means t.Var w kind value = (kind ≡ k.Var) × (value ≡ v.Text (chars (drop 1 w)))
 Means t.Context w kind value = (kind ≡ k.Context) × (value ≡ v.Nothing)
-Means t.Int w kind value = (kind ≡ k.Int) × (n : Numeral) × (m : ℤ) × (value ≡ v.Int m) × IsNumeral n w [] × Says n (number.Int m)
-Means t.Dec w kind value = (kind ≡ k.Dec) × (n : Numeral) × (m : ℤ) × (value ≡ v.Dec m) × IsNumeral n w [] × Says n (number.Dec m)
+Means t.Int w kind value =
+    (kind ≡ k.Int) × (n : Numeral) × (m : ℤ) × (value ≡ v.Int m) × IsNumeral n w []
+    × Says n (number.Int m)
+Means t.Dec w kind value =
+    (kind ≡ k.Dec) × (n : Numeral) × (m : ℤ) × (value ≡ v.Dec m) × IsNumeral n w []
+    × Says n (number.Dec m)
 Means t.Double w kind value = (kind ≡ k.Double) × (value ≡ v.Nothing)
 Means t.Text w kind value = (kind ≡ k.Text) × (cs : List ℕ) × (value ≡ v.Text cs) × IsString cs w []
 Means t.Mark w kind value = (kind ≡ mark_kind w) × (value ≡ v.Nothing)
@@ -161,4 +168,5 @@ pub record IsWordOf (text : List ℕ) (token : Token) (word : Word) : Type 0 whe
 abbrev pub AreWords : List ℕ → List Token → List Word → Type 0
 AreWords text [] words = words ≡ []
 AreWords text (token ∷ tokens) [] = ⊥
-AreWords text (token ∷ tokens) (word ∷ words) = IsWordOf text token word × AreWords text tokens words
+AreWords text (token ∷ tokens) (word ∷ words) =
+    IsWordOf text token word × AreWords text tokens words

@@ -173,7 +173,8 @@ fn variable_name(alloc: Global, text: &str, token: &Token) -> Result<Str, NoMemo
 fn int_value(text: &str, token: &Token) -> Whole
     requires listed { IsTokenOf text.now token.now }
     requires kind { token.now.kind ≡ t.Int }
-    ensures { (n : Numeral) × IsNumeral n (spelling text.now token.now) [] × Says n (number.Int result) }
+    ensures { (n : Numeral) × IsNumeral n (spelling text.now token.now) []
+        × Says n (number.Int result) }
 {
     match read_number(spelled(text, token).as_bytes()).unwrap() {
         Number::Int(n) => Whole::new(n),
@@ -185,7 +186,8 @@ fn int_value(text: &str, token: &Token) -> Whole
 fn dec_value(text: &str, token: &Token) -> Units
     requires listed { IsTokenOf text.now token.now }
     requires kind { token.now.kind ≡ t.Dec }
-    ensures { (n : Numeral) × IsNumeral n (spelling text.now token.now) [] × Says n (number.Dec result) }
+    ensures { (n : Numeral) × IsNumeral n (spelling text.now token.now) []
+        × Says n (number.Dec result) }
 {
     match read_number(spelled(text, token).as_bytes()).unwrap() {
         Number::Int(_) => unreachable!(),

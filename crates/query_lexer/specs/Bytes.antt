@@ -30,7 +30,9 @@ is_mark b = is_one_of (codes "()[]{},;:.!|+-*=<>#?") b
 
 -- the marks of two bytes: {| |} || := != <= >=
 unfoldable pub is_double_mark : ℕ → ℕ → Bool
-is_double_mark b c = (b == 123 && c == 124) || (b == 124 && is_one_of (codes "}|") c) || (is_one_of (codes ":!<>") b && c == 61)
+is_double_mark b c =
+    (b == 123 && c == 124) || (b == 124 && is_one_of (codes "}|") c)
+    || (is_one_of (codes ":!<>") b && c == 61)
 
 -- the first byte passes
 abbrev pub next_passes : (ℕ → Bool) → List ℕ → Bool

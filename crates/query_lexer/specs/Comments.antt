@@ -19,7 +19,8 @@ abbrev pub begins_comment : List ℕ → Bool
 begins_comment [] = false
 begins_comment (b ∷ r) = next_passes (opens b) r
 
--- behind the beginning of a comment that stands in n others: how many bytes it takes until all of them are closed, if they are
+-- behind the beginning of a comment that stands in n others: how many bytes it takes until all of
+-- them are closed, if they are
 abbrev pub comment_rest : ℕ → List ℕ → Option ℕ
 comment_rest n [] = None
 comment_rest n (b ∷ []) = None
@@ -30,7 +31,8 @@ comment_rest n (b ∷ c ∷ r) =
 
 -- a comment of n bytes, closed
 abbrev pub IsComment : List ℕ → ℕ → Type 0
-IsComment text n = (begins_comment text ≡ true) × (m : ℕ) × (comment_rest 0 (drop 2 text) ≡ Some m) × (n ≡ 2 + m)
+IsComment text n =
+    (begins_comment text ≡ true) × (m : ℕ) × (comment_rest 0 (drop 2 text) ≡ Some m) × (n ≡ 2 + m)
 
 -- a comment that isn't closed
 abbrev pub IsUnclosed : List ℕ → Type 0

@@ -1,4 +1,5 @@
--- The lexical rules: what stands at each place of a text, where the next place is, and so the tokens of a text or the first refusal in it.
+-- The lexical rules: what stands at each place of a text, where the next place is, and so the
+-- tokens of a text or the first refusal in it.
 use Rattle.std.specs.Prelude.{◌≡◌, ◌⊎◌, ◌<◌, ◌≤◌, ℕ, ◌+◌, ◌-◌, Bool, true, false, ◌&&◌, List, [], ◌∷◌, ◌++◌, length, take, drop, Option, Some, None}
 use Rattle.std.specs.List.{Contains}
 use Rattle.num_fixed.specs.Numeral.{Numeral, IsNumeral, IsOutOfBounds}
@@ -21,7 +22,8 @@ use Rattle.query_lexer.specs.declared.steps.Step.TheVariants as step
 pub record IsLongest (text : List ℕ) (kind : TokenKind) (n : ℕ) : Type 0 where
   pub within : n ≤ length text
   pub fits : Fits kind (take n text) (drop n text)
-  pub longest : (other : TokenKind) (w rest : List ℕ) → text ≡ w ++ rest → Fits other w rest → length w ≤ n
+  pub longest : (other : TokenKind) (w rest : List ℕ) → text ≡ w ++ rest → Fits other w rest
+      → length w ≤ n
 
 abbrev pub NoToken : List ℕ → Type 0
 NoToken text = (kind : TokenKind) (w rest : List ℕ) → text ≡ w ++ rest → Fits kind w rest → ⊥
@@ -51,7 +53,8 @@ runs_on kind rest = is_number kind && next_passes is_letter rest
 abbrev pub IsOutNumber : List ℕ → Type 0
 IsOutNumber w = (n : Numeral) × IsNumeral n w [] × IsOutOfBounds n
 
--- a literal out of range: an Int that isn't below 10^20, or a Dec whose nearest unit isn't in bounds
+-- a literal out of range: an Int that isn't below 10^20, or a Dec whose nearest unit isn't in
+-- bounds
 abbrev pub IsOut : TokenKind → List ℕ → Type 0
 IsOut k.Int w = IsOutNumber w
 IsOut k.Dec w = IsOutNumber w
@@ -59,11 +62,17 @@ IsOut _ w = ⊥
 
 -- a comment that isn't closed, what begins no token, or a number that runs on
 abbrev pub IsMalformed : List ℕ → Type 0
-IsMalformed text = IsUnclosed text ⊎ ((IsDark text × NoToken text) ⊎ ((kind : TokenKind) × (n : ℕ) × IsWord text kind n × (runs_on kind (drop n text) ≡ true)))
+IsMalformed text =
+    IsUnclosed text
+    ⊎
+    ((IsDark text × NoToken text)
+    ⊎ ((kind : TokenKind) × (n : ℕ) × IsWord text kind n × (runs_on kind (drop n text) ≡ true)))
 
 -- a literal out of range, which doesn't run on
 abbrev pub IsOutOfRange : List ℕ → Type 0
-IsOutOfRange text = (kind : TokenKind) × (n : ℕ) × IsWord text kind n × (runs_on kind (drop n text) ≡ false) × IsOut kind (take n text)
+IsOutOfRange text =
+    (kind : TokenKind) × (n : ℕ) × IsWord text kind n × (runs_on kind (drop n text) ≡ false)
+    × IsOut kind (take n text)
 
 abbrev pub Refuses : List ℕ → Code → Type 0
 Refuses text c = ((c ≡ XPST0003) × IsMalformed text) ⊎ ((c ≡ PJST0004) × IsOutOfRange text)
@@ -71,7 +80,8 @@ Refuses text c = ((c ≡ XPST0003) × IsMalformed text) ⊎ ((c ≡ PJST0004) ×
 -- what stands at the front of a text
 abbrev pub Stands : List ℕ → Step → Type 0
 Stands text (step.Skip n) = ((next_passes is_blank text ≡ true) × (n ≡ 1)) ⊎ IsComment text n
-Stands text (step.Take kind n) = IsWord text kind n × (runs_on kind (drop n text) ≡ false) × (¬ IsOut kind (take n text))
+Stands text (step.Take kind n) =
+    IsWord text kind n × (runs_on kind (drop n text) ≡ false) × (¬ IsOut kind (take n text))
 Stands text (step.Refuse c) = Refuses text c
 
 -- ---- from place to place
@@ -91,7 +101,8 @@ Leads text (s ∷ ss) rest = Stands text s × (n : ℕ) × (goes s ≡ Some n) �
 abbrev pub tokens_of : ℕ → List Step → List Token
 tokens_of at [] = []
 tokens_of at (step.Skip n ∷ ss) = tokens_of (at + n) ss
-tokens_of at (step.Take kind n ∷ ss) = record { kind = kind; from = at; to = at + n } ∷ tokens_of (at + n) ss
+tokens_of at (step.Take kind n ∷ ss) =
+    record { kind = kind; from = at; to = at + n } ∷ tokens_of (at + n) ss
 tokens_of at (step.Refuse c ∷ ss) = tokens_of at ss
 
 -- ---- a text
@@ -102,7 +113,9 @@ Tokens text ts = (ss : List Step) × Leads text ss [] × (tokens_of 0 ss ≡ ts)
 
 -- the first lexical refusal in the text
 abbrev pub Refused : List ℕ → Code → ℕ → Type 0
-Refused text c place = (ss : List Step) × (rest : List ℕ) × Leads text ss rest × Refuses rest c × (place + length rest ≡ length text)
+Refused text c place =
+    (ss : List Step) × (rest : List ℕ) × Leads text ss rest × Refuses rest c
+    × (place + length rest ≡ length text)
 
 abbrev pub IsFault : List ℕ → LexFault → Type 0
 IsFault text (fault.Refused c place) = Refused text c place
@@ -125,7 +138,8 @@ pub record AreTokens (text : List ℕ) (ts : List Token) : Type 0 where
   pub behind : List Token
   pub whole : Tokens text (before ++ (ts ++ behind))
 
--- each token begins no sooner than the one before it ends, and none is empty: all are between these places
+-- each token begins no sooner than the one before it ends, and none is empty: all are between
+-- these places
 abbrev pub AreBetween : ℕ → ℕ → List Token → Type 0
 AreBetween low high [] = low ≤ high
 AreBetween low high (t ∷ ts) = (low ≤ t.from) × (t.from < t.to) × AreBetween t.to high ts

@@ -1,4 +1,5 @@
--- How the longest token at the front of a text is found. Nothing here is part of what a token is: `tokens` says that it is the same.
+-- How the longest token at the front of a text is found. Nothing here is part of what a token is:
+-- `tokens` says that it is the same.
 use Rattle.std.specs.Prelude.{option_map, ℕ, ◌+◌, ◌-◌, Bool, true, false, ◌||◌, ◌&&◌, not, ◌==◌, nat_lt, if◌then◌else◌, List, [], ◌∷◌, take, drop, length, Option, Some, None, codes}
 use Rattle.std.specs.Char.{is_ascii_digit}
 use Rattle.std.specs.List.{prefix_len}
@@ -28,7 +29,8 @@ starts_with (c ∷ cs) (b ∷ r) = b == c && starts_with cs r
 -- behind a $
 unfoldable pub var_at : List ℕ → Option (TokenKind × ℕ)
 var_at r =
-    if starts_with (codes "err:code") r && not (next_passes is_name_byte (drop 8 r)) then Some (k.Var, 9)
+    if starts_with (codes "err:code") r && not (next_passes is_name_byte (drop 8 r))
+    then Some (k.Var, 9)
     else (if nat_lt 0 (name_length r) then Some (k.Var, 1 + name_length r)
     else (if next_passes (λ b. b == 36) r then Some (k.Context, 2) else None))
 
@@ -50,7 +52,8 @@ sign_length (b ∷ r) = if is_sign b then 1 else 0
 unfoldable pub exponent_length : List ℕ → ℕ
 exponent_length [] = 0
 exponent_length (b ∷ r) =
-    if (b == 101 || b == 69) && nat_lt 0 (digits_length (drop (sign_length r) r)) then 1 + sign_length r + digits_length (drop (sign_length r) r) else 0
+    if (b == 101 || b == 69) && nat_lt 0 (digits_length (drop (sign_length r) r))
+    then 1 + sign_length r + digits_length (drop (sign_length r) r) else 0
 
 unfoldable pub fraction_at : List ℕ → ℕ
 fraction_at text = fraction_length (drop (digits_length text) text)
@@ -60,12 +63,18 @@ exponent_at text = exponent_length (drop (digits_length text + fraction_at text)
 
 -- the kind of the number whose fraction and exponent have these lengths
 abbrev pub number_kind : ℕ → ℕ → TokenKind
-number_kind fraction exponent = if nat_lt 0 exponent then k.Double else (if nat_lt 0 fraction then k.Dec else k.Int)
+number_kind fraction exponent =
+    if nat_lt 0 exponent then k.Double else (if nat_lt 0 fraction then k.Dec else k.Int)
 
 -- the longest number
 unfoldable pub number_at : List ℕ → Option (TokenKind × ℕ)
 number_at text =
-    if nat_lt 0 (digits_length text + fraction_at text) then Some (number_kind (fraction_at text) (exponent_at text), digits_length text + fraction_at text + exponent_at text) else None
+    if nat_lt 0 (digits_length text + fraction_at text)
+    then Some (
+      number_kind (fraction_at text) (exponent_at text),
+      digits_length text + fraction_at text
+          + exponent_at text,
+    ) else None
 
 abbrev pub fraction_of : List ℕ → Option (List ℕ)
 fraction_of [] = None
@@ -73,7 +82,12 @@ fraction_of (b ∷ r) = Some r
 
 -- the numeral of an Int or a Dec
 unfoldable pub numeral_of : List ℕ → Numeral
-numeral_of w = record { sign = none; int = take (digits_length w) w; frac = fraction_of (drop (digits_length w) w); exp = None }
+numeral_of w = record {
+  sign = none;
+  int = take (digits_length w) w;
+  frac = fraction_of (drop (digits_length w) w);
+  exp = None;
+}
 
 abbrev pub is_out_number : List ℕ → Bool
 is_out_number w = not (number_in_bounds (said (numeral_of w)))
@@ -111,7 +125,8 @@ text_of_length (Some n) = Some (k.Text, 1 + n)
 unfoldable pub mark_at : List ℕ → Option (TokenKind × ℕ)
 mark_at [] = None
 mark_at (b ∷ r) =
-    if next_passes (is_double_mark b) r then Some (k.Mark, 2) else (if is_mark b then Some (k.Mark, 1) else None)
+    if next_passes (is_double_mark b) r then Some (k.Mark, 2)
+    else (if is_mark b then Some (k.Mark, 1) else None)
 
 -- ---- any token
 
@@ -144,4 +159,6 @@ word_step text (Some x) =
 unfoldable pub step_at : List ℕ → Step
 step_at text =
     if next_passes is_blank text then step.Skip 1
-    else (if begins_comment text then comment_step (comment_rest 0 (drop 2 text)) else word_step text (token_at text))
+    else
+    (if begins_comment text then comment_step (comment_rest 0 (drop 2 text))
+    else word_step text (token_at text))

@@ -15,7 +15,8 @@ IsName (b ∷ r) = (is_letter b ≡ true) × (list_all is_name_byte r ≡ true)
 -- $ and a name, or $err:code where no further name byte follows
 abbrev pub IsVar : List ℕ → List ℕ → Type 0
 IsVar [] rest = ⊥
-IsVar (b ∷ r) rest = (b ≡ 36) × (IsName r ⊎ ((r ≡ codes "err:code") × (next_passes is_name_byte rest ≡ false)))
+IsVar (b ∷ r) rest =
+    (b ≡ 36) × (IsName r ⊎ ((r ≡ codes "err:code") × (next_passes is_name_byte rest ≡ false)))
 
 abbrev pub IsDigits : List ℕ → Type 0
 IsDigits w = (0 < length w) × (list_all is_ascii_digit w ≡ true)
@@ -32,7 +33,8 @@ IsSign (b ∷ c ∷ r) = ⊥
 
 -- e or E, an optional sign and digits
 abbrev pub IsExponent : List ℕ → Type 0
-IsExponent w = (e : ℕ) × (s b : List ℕ) × (w ≡ e ∷ (s ++ b)) × ((e ≡ 101) ⊎ (e ≡ 69)) × IsSign s × IsDigits b
+IsExponent w =
+    (e : ℕ) × (s b : List ℕ) × (w ≡ e ∷ (s ++ b)) × ((e ≡ 101) ⊎ (e ≡ 69)) × IsSign s × IsDigits b
 
 abbrev pub IsDouble : List ℕ → Type 0
 IsDouble w = (m x : List ℕ) × (w ≡ m ++ x) × (IsDigits m ⊎ IsDec m) × IsExponent x

@@ -1,5 +1,5 @@
-//! Laws of the lexical rules. Each holds of all texts: a call brings it to a proof, and does nothing
-//! when it runs.
+//! Laws of the lexical rules. Each holds of all texts: a call brings it to a proof, and does
+//! nothing when it runs.
 
 ghost use Rattle.query_lexer.specs.Laws.{ReadingIsOne, CommentsNest};
 

@@ -43,9 +43,11 @@ pub fn tokens(alloc: Global, text: &str) -> Result<Vec<Token>, LexFault>
     // A refusal is the first one in the text.
     ensures refused { IfErr result (λ e. IsFault text.now e) }
     // The tokens that the text has are answered, unless memory runs out.
-    ensures only { (ts : List Token) → Tokens text.now ts → MatchResult result (λ v. v.items ≡ ts) (λ e. e ≡ NoMemory) }
+    ensures only { (ts : List Token) → Tokens text.now ts
+        → MatchResult result (λ v. v.items ≡ ts) (λ e. e ≡ NoMemory) }
     // And so is a refusal.
-    ensures only_refusal { (code : Code) → (place : ℕ) → Refused text.now code place → MatchResult result (λ v. ⊥) (λ e. IsTold code place e) }
+    ensures only_refusal { (code : Code) → (place : ℕ) → Refused text.now code place
+        → MatchResult result (λ v. ⊥) (λ e. IsTold code place e) }
 {
     let bytes = text.as_bytes();
     if bytes.len() > u32::MAX as usize {

@@ -33,7 +33,8 @@ pub(crate) fn character_at(text: &[u8]) -> Option<(Spelled, &[u8])>
 
 /// What is behind a closing quote at the front.
 fn behind_quote(text: &[u8]) -> Option<&[u8]>
-    ensures value { MatchOption result (closed_at text.now ≡ None) (λ r. closed_at text.now ≡ Some ([], r.now)) }
+    ensures value { MatchOption result (closed_at text.now ≡ None)
+        (λ r. closed_at text.now ≡ Some ([], r.now)) }
     ensures within { IfSome result (λ r. length r.now < length text.now) }
 {
     match text {

@@ -30,7 +30,10 @@ fn name_length(text: &[u8]) -> usize
 
 /// Whether `err:code` is at the front and ends there.
 fn is_error_code(text: &[u8]) -> bool
-    ensures value { result ≡ (starts_with (codes "err:code") text.now && not (next_passes is_name_byte (drop 8 text.now))) }
+    ensures value { result
+        ≡
+        (starts_with (codes "err:code") text.now
+        && not (next_passes is_name_byte (drop 8 text.now))) }
     ensures within { IsTrue result → 8 ≤ length text.now }
 {
     match text {

@@ -20,4 +20,5 @@ AreRefused words end (fault.Refused code place) = IsRefused words end code place
 -- the words of a text's tokens are refused so
 abbrev pub IsFault : List ℕ → List Token → ParseFault → Type 0
 IsFault text tokens fault.NoMemory = Unit {0}
-IsFault text tokens (fault.Refused code place) = (words : List Word) × AreWords text tokens words × IsRefused words (length text) code place
+IsFault text tokens (fault.Refused code place) =
+    (words : List Word) × AreWords text tokens words × IsRefused words (length text) code place

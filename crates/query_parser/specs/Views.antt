@@ -103,7 +103,11 @@ named_codes m inner = mapped n.these_codes (g.catch_names m inner)
 
 -- If = "if" "(" Expr ")" "then" Single "else" Single
 abbrev pub if_content : Mode → Inner Word inside.Part n.Tree → Lang n.Tree
-if_content m inner = mapped n.if (from k.If (seq (g.in_parens m inner) (seq (before k.Then (inner i.Single)) (before k.Else (inner i.Single)))))
+if_content m inner =
+    mapped n.if
+    (from k.If
+    (seq (g.in_parens m inner)
+    (seq (before k.Then (inner i.Single)) (before k.Else (inner i.Single)))))
 
 -- Try = "try" "{" Expr "}" Catch { Catch }
 abbrev pub try_content : Mode → Inner Word inside.Part n.Tree → Lang n.Tree
@@ -112,8 +116,10 @@ try_content m inner = mapped n.try (from k.Try (seq (g.in_braces m inner) (g.cat
 -- ---- modules
 
 -- the reader of a production that stands in no form, where so many forms may nest
-abbrev pub top_reader : {A : Type 0} → (Mode → Inner Word inside.Part n.Tree → Part Word A) → Bool → ℕ → Reader Word A
-top_reader production wide depth = (production (mode_at wide (suc depth)) (level forms wide depth)).read
+abbrev pub top_reader : {A : Type 0} → (Mode → Inner Word inside.Part n.Tree → Part Word A) → Bool
+    → ℕ → Reader Word A
+top_reader production wide depth =
+    (production (mode_at wide (suc depth)) (level forms wide depth)).read
 
 -- those of a list that are variables, and those that are functions
 abbrev pub variables_of : {V F : Type 0} → List (Declared V F) → List V

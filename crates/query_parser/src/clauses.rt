@@ -29,8 +29,11 @@ impl<F: Fn(Global, bool, usize, Part, &mut Cursor<'_, Word>) -> Result<NamedExpr
     /// `[ "allowing" "empty" ]`
     #[tactic(auto, unfolding(query_grammar::specs::Grammar::allowing))]
     pub fn allowing(&self, cursor: &mut Cursor<'_, Word>) -> Result<bool, Stop>
-        requires { Nests forms tree self.now.parts.wide self.now.parts.depth (F.pre self.now.parts.inner) (F.post self.now.parts.inner) }
-        ensures { ReadsAs (λ x. x) (reader g.allowing self.now.parts.wide self.now.parts.depth cursor.old.rest.now) result cursor.new.rest.now }
+        requires { Nests forms tree self.now.parts.wide self.now.parts.depth
+            (F.pre self.now.parts.inner) (F.post self.now.parts.inner) }
+        ensures { ReadsAs (λ x. x)
+            (reader g.allowing self.now.parts.wide self.now.parts.depth cursor.old.rest.now)
+            result cursor.new.rest.now }
     {
         if !cursor.sees(Kind::Allowing) {
             return Ok(false);
@@ -43,8 +46,11 @@ impl<F: Fn(Global, bool, usize, Part, &mut Cursor<'_, Word>) -> Result<NamedExpr
     /// `[ "at" Var ]`
     #[tactic(auto, unfolding(query_grammar::specs::Grammar::at_variable))]
     pub fn at_variable(&self, cursor: &mut Cursor<'_, Word>) -> Result<Option<Placed<Str>>, Stop>
-        requires { Nests forms tree self.now.parts.wide self.now.parts.depth (F.pre self.now.parts.inner) (F.post self.now.parts.inner) }
-        ensures { ReadsAs (λ x. x) (reader g.at_variable self.now.parts.wide self.now.parts.depth cursor.old.rest.now) result cursor.new.rest.now }
+        requires { Nests forms tree self.now.parts.wide self.now.parts.depth
+            (F.pre self.now.parts.inner) (F.post self.now.parts.inner) }
+        ensures { ReadsAs (λ x. x)
+            (reader g.at_variable self.now.parts.wide self.now.parts.depth cursor.old.rest.now)
+            result cursor.new.rest.now }
     {
         if !cursor.sees(Kind::At) {
             return Ok(None);
@@ -57,8 +63,11 @@ impl<F: Fn(Global, bool, usize, Part, &mut Cursor<'_, Word>) -> Result<NamedExpr
     /// `ForVar`
     #[tactic(auto, unfolding(query_grammar::specs::Grammar::for_var))]
     pub fn for_var(&self, cursor: &mut Cursor<'_, Word>) -> Result<NamedClause, Stop>
-        requires { Nests forms tree self.now.parts.wide self.now.parts.depth (F.pre self.now.parts.inner) (F.post self.now.parts.inner) }
-        ensures { ReadsAs view.clause (reader g.for_var self.now.parts.wide self.now.parts.depth cursor.old.rest.now) result cursor.new.rest.now }
+        requires { Nests forms tree self.now.parts.wide self.now.parts.depth
+            (F.pre self.now.parts.inner) (F.post self.now.parts.inner) }
+        ensures { ReadsAs view.clause
+            (reader g.for_var self.now.parts.wide self.now.parts.depth cursor.old.rest.now) result
+            cursor.new.rest.now }
     {
         let variable = variable(self.parts.alloc, cursor)?;
         let of = or_give_up!(variable, as_type(self.parts.alloc, cursor));
@@ -72,8 +81,11 @@ impl<F: Fn(Global, bool, usize, Part, &mut Cursor<'_, Word>) -> Result<NamedExpr
     /// `ForVar { "," ForVar }`
     #[tactic(auto, unfolding(query_grammar::specs::Grammar::for_vars))]
     pub fn for_vars(&self, cursor: &mut Cursor<'_, Word>) -> Result<Vec<NamedClause>, Stop>
-        requires { Nests forms tree self.now.parts.wide self.now.parts.depth (F.pre self.now.parts.inner) (F.post self.now.parts.inner) }
-        ensures { ReadsAs view.clauses (reader g.for_vars self.now.parts.wide self.now.parts.depth cursor.old.rest.now) result cursor.new.rest.now }
+        requires { Nests forms tree self.now.parts.wide self.now.parts.depth
+            (F.pre self.now.parts.inner) (F.post self.now.parts.inner) }
+        ensures { ReadsAs view.clauses
+            (reader g.for_vars self.now.parts.wide self.now.parts.depth cursor.old.rest.now)
+            result cursor.new.rest.now }
     {
         list(self.parts.alloc, Kind::Comma, |at| self.for_var(at), cursor)
     }
@@ -81,8 +93,11 @@ impl<F: Fn(Global, bool, usize, Part, &mut Cursor<'_, Word>) -> Result<NamedExpr
     /// `"tumbling" | "sliding"`, in the wider grammar.
     #[tactic(auto, unfolding(query_grammar::specs::Grammar::window))]
     pub fn window(&self, cursor: &mut Cursor<'_, Word>) -> Result<Vec<NamedClause>, Stop>
-        requires { Nests forms tree self.now.parts.wide self.now.parts.depth (F.pre self.now.parts.inner) (F.post self.now.parts.inner) }
-        ensures { ReadsAs view.clauses (reader g.window self.now.parts.wide self.now.parts.depth cursor.old.rest.now) result cursor.new.rest.now }
+        requires { Nests forms tree self.now.parts.wide self.now.parts.depth
+            (F.pre self.now.parts.inner) (F.post self.now.parts.inner) }
+        ensures { ReadsAs view.clauses
+            (reader g.window self.now.parts.wide self.now.parts.depth cursor.old.rest.now) result
+            cursor.new.rest.now }
     {
         if !self.parts.wide {
             return Err(Stop::Refused);
@@ -94,8 +109,11 @@ impl<F: Fn(Global, bool, usize, Part, &mut Cursor<'_, Word>) -> Result<NamedExpr
     /// `For`
     #[tactic(auto, unfolding(query_grammar::specs::Grammar::for_clause))]
     pub fn for_clause(&self, cursor: &mut Cursor<'_, Word>) -> Result<(u32, Vec<NamedClause>), Stop>
-        requires { Nests forms tree self.now.parts.wide self.now.parts.depth (F.pre self.now.parts.inner) (F.post self.now.parts.inner) }
-        ensures { ReadsAs view.placed_clauses (reader g.for_clause self.now.parts.wide self.now.parts.depth cursor.old.rest.now) result cursor.new.rest.now }
+        requires { Nests forms tree self.now.parts.wide self.now.parts.depth
+            (F.pre self.now.parts.inner) (F.post self.now.parts.inner) }
+        ensures { ReadsAs view.placed_clauses
+            (reader g.for_clause self.now.parts.wide self.now.parts.depth cursor.old.rest.now)
+            result cursor.new.rest.now }
     {
         let place = cursor.expect(Kind::For)?.place;
         if cursor.sees(Kind::Var) {
@@ -109,8 +127,11 @@ impl<F: Fn(Global, bool, usize, Part, &mut Cursor<'_, Word>) -> Result<NamedExpr
     /// `LetVar`
     #[tactic(auto, unfolding(query_grammar::specs::Grammar::let_var))]
     pub fn let_var(&self, cursor: &mut Cursor<'_, Word>) -> Result<NamedClause, Stop>
-        requires { Nests forms tree self.now.parts.wide self.now.parts.depth (F.pre self.now.parts.inner) (F.post self.now.parts.inner) }
-        ensures { ReadsAs view.clause (reader g.let_var self.now.parts.wide self.now.parts.depth cursor.old.rest.now) result cursor.new.rest.now }
+        requires { Nests forms tree self.now.parts.wide self.now.parts.depth
+            (F.pre self.now.parts.inner) (F.post self.now.parts.inner) }
+        ensures { ReadsAs view.clause
+            (reader g.let_var self.now.parts.wide self.now.parts.depth cursor.old.rest.now) result
+            cursor.new.rest.now }
     {
         let variable = variable(self.parts.alloc, cursor)?;
         let of = or_give_up!(variable, as_type(self.parts.alloc, cursor));
@@ -122,8 +143,11 @@ impl<F: Fn(Global, bool, usize, Part, &mut Cursor<'_, Word>) -> Result<NamedExpr
     /// `LetVar { "," LetVar }`
     #[tactic(auto, unfolding(query_grammar::specs::Grammar::let_vars))]
     pub fn let_vars(&self, cursor: &mut Cursor<'_, Word>) -> Result<Vec<NamedClause>, Stop>
-        requires { Nests forms tree self.now.parts.wide self.now.parts.depth (F.pre self.now.parts.inner) (F.post self.now.parts.inner) }
-        ensures { ReadsAs view.clauses (reader g.let_vars self.now.parts.wide self.now.parts.depth cursor.old.rest.now) result cursor.new.rest.now }
+        requires { Nests forms tree self.now.parts.wide self.now.parts.depth
+            (F.pre self.now.parts.inner) (F.post self.now.parts.inner) }
+        ensures { ReadsAs view.clauses
+            (reader g.let_vars self.now.parts.wide self.now.parts.depth cursor.old.rest.now)
+            result cursor.new.rest.now }
     {
         list(self.parts.alloc, Kind::Comma, |at| self.let_var(at), cursor)
     }
@@ -134,8 +158,11 @@ impl<F: Fn(Global, bool, usize, Part, &mut Cursor<'_, Word>) -> Result<NamedExpr
         &self,
         cursor: &mut Cursor<'_, Word>,
     ) -> Result<(u32, Vec<NamedClause>), Stop>
-        requires { Nests forms tree self.now.parts.wide self.now.parts.depth (F.pre self.now.parts.inner) (F.post self.now.parts.inner) }
-        ensures { ReadsAs view.placed_clauses (reader g.first_clause self.now.parts.wide self.now.parts.depth cursor.old.rest.now) result cursor.new.rest.now }
+        requires { Nests forms tree self.now.parts.wide self.now.parts.depth
+            (F.pre self.now.parts.inner) (F.post self.now.parts.inner) }
+        ensures { ReadsAs view.placed_clauses
+            (reader g.first_clause self.now.parts.wide self.now.parts.depth cursor.old.rest.now)
+            result cursor.new.rest.now }
     {
         if cursor.sees(Kind::For) {
             return self.for_clause(cursor);
@@ -148,8 +175,11 @@ impl<F: Fn(Global, bool, usize, Part, &mut Cursor<'_, Word>) -> Result<NamedExpr
     /// `Keep`
     #[tactic(auto, unfolding(query_grammar::specs::Grammar::keep_clause))]
     pub fn keep_clause(&self, cursor: &mut Cursor<'_, Word>) -> Result<NamedClause, Stop>
-        requires { Nests forms tree self.now.parts.wide self.now.parts.depth (F.pre self.now.parts.inner) (F.post self.now.parts.inner) }
-        ensures { ReadsAs view.clause (reader g.keep_clause self.now.parts.wide self.now.parts.depth cursor.old.rest.now) result cursor.new.rest.now }
+        requires { Nests forms tree self.now.parts.wide self.now.parts.depth
+            (F.pre self.now.parts.inner) (F.post self.now.parts.inner) }
+        ensures { ReadsAs view.clause
+            (reader g.keep_clause self.now.parts.wide self.now.parts.depth cursor.old.rest.now)
+            result cursor.new.rest.now }
     {
         let place = cursor.expect(Kind::Where)?.place;
         let test = self.parts.inside(Part::Single, cursor)?;
@@ -159,8 +189,11 @@ impl<F: Fn(Global, bool, usize, Part, &mut Cursor<'_, Word>) -> Result<NamedExpr
     /// `GroupVar`
     #[tactic(auto, unfolding(query_grammar::specs::Grammar::group_var, query_grammar::specs::Grammar::group_value))]
     pub fn group_var(&self, cursor: &mut Cursor<'_, Word>) -> Result<GroupVar<Str, NamedExpr>, Stop>
-        requires { Nests forms tree self.now.parts.wide self.now.parts.depth (F.pre self.now.parts.inner) (F.post self.now.parts.inner) }
-        ensures { ReadsAs view.group_var (reader g.group_var self.now.parts.wide self.now.parts.depth cursor.old.rest.now) result cursor.new.rest.now }
+        requires { Nests forms tree self.now.parts.wide self.now.parts.depth
+            (F.pre self.now.parts.inner) (F.post self.now.parts.inner) }
+        ensures { ReadsAs view.group_var
+            (reader g.group_var self.now.parts.wide self.now.parts.depth cursor.old.rest.now)
+            result cursor.new.rest.now }
     {
         let variable = variable(self.parts.alloc, cursor)?;
         if !cursor.sees(Kind::Assign) {
@@ -177,8 +210,11 @@ impl<F: Fn(Global, bool, usize, Part, &mut Cursor<'_, Word>) -> Result<NamedExpr
         &self,
         cursor: &mut Cursor<'_, Word>,
     ) -> Result<Vec<GroupVar<Str, NamedExpr>>, Stop>
-        requires { Nests forms tree self.now.parts.wide self.now.parts.depth (F.pre self.now.parts.inner) (F.post self.now.parts.inner) }
-        ensures { ReadsAs view.group_vars (reader g.group_vars self.now.parts.wide self.now.parts.depth cursor.old.rest.now) result cursor.new.rest.now }
+        requires { Nests forms tree self.now.parts.wide self.now.parts.depth
+            (F.pre self.now.parts.inner) (F.post self.now.parts.inner) }
+        ensures { ReadsAs view.group_vars
+            (reader g.group_vars self.now.parts.wide self.now.parts.depth cursor.old.rest.now)
+            result cursor.new.rest.now }
     {
         list(
             self.parts.alloc,
@@ -191,8 +227,11 @@ impl<F: Fn(Global, bool, usize, Part, &mut Cursor<'_, Word>) -> Result<NamedExpr
     /// `Group`
     #[tactic(auto, unfolding(query_grammar::specs::Grammar::group_clause))]
     pub fn group_clause(&self, cursor: &mut Cursor<'_, Word>) -> Result<NamedClause, Stop>
-        requires { Nests forms tree self.now.parts.wide self.now.parts.depth (F.pre self.now.parts.inner) (F.post self.now.parts.inner) }
-        ensures { ReadsAs view.clause (reader g.group_clause self.now.parts.wide self.now.parts.depth cursor.old.rest.now) result cursor.new.rest.now }
+        requires { Nests forms tree self.now.parts.wide self.now.parts.depth
+            (F.pre self.now.parts.inner) (F.post self.now.parts.inner) }
+        ensures { ReadsAs view.clause
+            (reader g.group_clause self.now.parts.wide self.now.parts.depth cursor.old.rest.now)
+            result cursor.new.rest.now }
     {
         let place = cursor.expect(Kind::Group)?.place;
         cursor.expect(Kind::By)?;
@@ -203,8 +242,11 @@ impl<F: Fn(Global, bool, usize, Part, &mut Cursor<'_, Word>) -> Result<NamedExpr
     /// `[ "empty" ( "least" | "greatest" ) ]`, whether the empty value is put above all.
     #[tactic(auto, unfolding(query_grammar::specs::Grammar::empty_order))]
     pub fn empty_order(&self, cursor: &mut Cursor<'_, Word>) -> Result<bool, Stop>
-        requires { Nests forms tree self.now.parts.wide self.now.parts.depth (F.pre self.now.parts.inner) (F.post self.now.parts.inner) }
-        ensures { ReadsAs (λ x. x) (reader g.empty_order self.now.parts.wide self.now.parts.depth cursor.old.rest.now) result cursor.new.rest.now }
+        requires { Nests forms tree self.now.parts.wide self.now.parts.depth
+            (F.pre self.now.parts.inner) (F.post self.now.parts.inner) }
+        ensures { ReadsAs (λ x. x)
+            (reader g.empty_order self.now.parts.wide self.now.parts.depth cursor.old.rest.now)
+            result cursor.new.rest.now }
     {
         if !cursor.sees(Kind::Empty) {
             return Ok(false);
@@ -217,8 +259,11 @@ impl<F: Fn(Global, bool, usize, Part, &mut Cursor<'_, Word>) -> Result<NamedExpr
     /// `Key`
     #[tactic(auto, unfolding(query_grammar::specs::Grammar::order_key, query_grammar::specs::Grammar::direction))]
     pub fn order_key(&self, cursor: &mut Cursor<'_, Word>) -> Result<OrderKey<NamedExpr>, Stop>
-        requires { Nests forms tree self.now.parts.wide self.now.parts.depth (F.pre self.now.parts.inner) (F.post self.now.parts.inner) }
-        ensures { ReadsAs view.order_key (reader g.order_key self.now.parts.wide self.now.parts.depth cursor.old.rest.now) result cursor.new.rest.now }
+        requires { Nests forms tree self.now.parts.wide self.now.parts.depth
+            (F.pre self.now.parts.inner) (F.post self.now.parts.inner) }
+        ensures { ReadsAs view.order_key
+            (reader g.order_key self.now.parts.wide self.now.parts.depth cursor.old.rest.now)
+            result cursor.new.rest.now }
     {
         let value = self.parts.inside(Part::Single, cursor)?;
         if !cursor.sees(Class::Direction) {
@@ -244,8 +289,11 @@ impl<F: Fn(Global, bool, usize, Part, &mut Cursor<'_, Word>) -> Result<NamedExpr
         &self,
         cursor: &mut Cursor<'_, Word>,
     ) -> Result<Vec<OrderKey<NamedExpr>>, Stop>
-        requires { Nests forms tree self.now.parts.wide self.now.parts.depth (F.pre self.now.parts.inner) (F.post self.now.parts.inner) }
-        ensures { ReadsAs view.order_keys (reader g.order_list self.now.parts.wide self.now.parts.depth cursor.old.rest.now) result cursor.new.rest.now }
+        requires { Nests forms tree self.now.parts.wide self.now.parts.depth
+            (F.pre self.now.parts.inner) (F.post self.now.parts.inner) }
+        ensures { ReadsAs view.order_keys
+            (reader g.order_list self.now.parts.wide self.now.parts.depth cursor.old.rest.now)
+            result cursor.new.rest.now }
     {
         list(
             self.parts.alloc,
@@ -261,8 +309,11 @@ impl<F: Fn(Global, bool, usize, Part, &mut Cursor<'_, Word>) -> Result<NamedExpr
         &self,
         cursor: &mut Cursor<'_, Word>,
     ) -> Result<Vec<OrderKey<NamedExpr>>, Stop>
-        requires { Nests forms tree self.now.parts.wide self.now.parts.depth (F.pre self.now.parts.inner) (F.post self.now.parts.inner) }
-        ensures { ReadsAs view.order_keys (reader g.order_keys self.now.parts.wide self.now.parts.depth cursor.old.rest.now) result cursor.new.rest.now }
+        requires { Nests forms tree self.now.parts.wide self.now.parts.depth
+            (F.pre self.now.parts.inner) (F.post self.now.parts.inner) }
+        ensures { ReadsAs view.order_keys
+            (reader g.order_keys self.now.parts.wide self.now.parts.depth cursor.old.rest.now)
+            result cursor.new.rest.now }
     {
         cursor.expect(Kind::By)?;
         self.order_list(cursor)
@@ -271,8 +322,11 @@ impl<F: Fn(Global, bool, usize, Part, &mut Cursor<'_, Word>) -> Result<NamedExpr
     /// `Order`
     #[tactic(auto, unfolding(query_grammar::specs::Grammar::order_clause))]
     pub fn order_clause(&self, cursor: &mut Cursor<'_, Word>) -> Result<NamedClause, Stop>
-        requires { Nests forms tree self.now.parts.wide self.now.parts.depth (F.pre self.now.parts.inner) (F.post self.now.parts.inner) }
-        ensures { ReadsAs view.clause (reader g.order_clause self.now.parts.wide self.now.parts.depth cursor.old.rest.now) result cursor.new.rest.now }
+        requires { Nests forms tree self.now.parts.wide self.now.parts.depth
+            (F.pre self.now.parts.inner) (F.post self.now.parts.inner) }
+        ensures { ReadsAs view.clause
+            (reader g.order_clause self.now.parts.wide self.now.parts.depth cursor.old.rest.now)
+            result cursor.new.rest.now }
     {
         if cursor.sees(Kind::Stable) {
             let place = cursor.expect(Kind::Stable)?.place;
@@ -288,8 +342,11 @@ impl<F: Fn(Global, bool, usize, Part, &mut Cursor<'_, Word>) -> Result<NamedExpr
     /// `Count`
     #[tactic(auto, unfolding(query_grammar::specs::Grammar::count_clause))]
     pub fn count_clause(&self, cursor: &mut Cursor<'_, Word>) -> Result<NamedClause, Stop>
-        requires { Nests forms tree self.now.parts.wide self.now.parts.depth (F.pre self.now.parts.inner) (F.post self.now.parts.inner) }
-        ensures { ReadsAs view.clause (reader g.count_clause self.now.parts.wide self.now.parts.depth cursor.old.rest.now) result cursor.new.rest.now }
+        requires { Nests forms tree self.now.parts.wide self.now.parts.depth
+            (F.pre self.now.parts.inner) (F.post self.now.parts.inner) }
+        ensures { ReadsAs view.clause
+            (reader g.count_clause self.now.parts.wide self.now.parts.depth cursor.old.rest.now)
+            result cursor.new.rest.now }
     {
         let place = cursor.expect(Kind::Count)?.place;
         let variable = variable(self.parts.alloc, cursor)?;
@@ -299,8 +356,11 @@ impl<F: Fn(Global, bool, usize, Part, &mut Cursor<'_, Word>) -> Result<NamedExpr
     /// `Keep | Group | Order | Count`
     #[tactic(auto, unfolding(query_grammar::specs::Grammar::one_clause))]
     pub fn one_clause(&self, cursor: &mut Cursor<'_, Word>) -> Result<NamedClause, Stop>
-        requires { Nests forms tree self.now.parts.wide self.now.parts.depth (F.pre self.now.parts.inner) (F.post self.now.parts.inner) }
-        ensures { ReadsAs view.clause (reader g.one_clause self.now.parts.wide self.now.parts.depth cursor.old.rest.now) result cursor.new.rest.now }
+        requires { Nests forms tree self.now.parts.wide self.now.parts.depth
+            (F.pre self.now.parts.inner) (F.post self.now.parts.inner) }
+        ensures { ReadsAs view.clause
+            (reader g.one_clause self.now.parts.wide self.now.parts.depth cursor.old.rest.now)
+            result cursor.new.rest.now }
     {
         if cursor.sees(Kind::Where) {
             self.keep_clause(cursor)
@@ -316,8 +376,11 @@ impl<F: Fn(Global, bool, usize, Part, &mut Cursor<'_, Word>) -> Result<NamedExpr
     /// `For | Let | Keep | Group | Order | Count`
     #[tactic(auto, unfolding(query_grammar::specs::Grammar::clause))]
     pub fn clause(&self, cursor: &mut Cursor<'_, Word>) -> Result<Vec<NamedClause>, Stop>
-        requires { Nests forms tree self.now.parts.wide self.now.parts.depth (F.pre self.now.parts.inner) (F.post self.now.parts.inner) }
-        ensures { ReadsAs view.clauses (reader g.clause self.now.parts.wide self.now.parts.depth cursor.old.rest.now) result cursor.new.rest.now }
+        requires { Nests forms tree self.now.parts.wide self.now.parts.depth
+            (F.pre self.now.parts.inner) (F.post self.now.parts.inner) }
+        ensures { ReadsAs view.clauses
+            (reader g.clause self.now.parts.wide self.now.parts.depth cursor.old.rest.now) result
+            cursor.new.rest.now }
     {
         if cursor.sees(Class::FirstClause) {
             let (_, clauses) = self.first_clause(cursor)?;
@@ -330,8 +393,11 @@ impl<F: Fn(Global, bool, usize, Part, &mut Cursor<'_, Word>) -> Result<NamedExpr
     /// `{ For | Let | Keep | Group | Order | Count }`
     #[tactic(auto, unfolding(query_grammar::specs::Grammar::clauses))]
     pub fn clauses(&self, cursor: &mut Cursor<'_, Word>) -> Result<Vec<Vec<NamedClause>>, Stop>
-        requires { Nests forms tree self.now.parts.wide self.now.parts.depth (F.pre self.now.parts.inner) (F.post self.now.parts.inner) }
-        ensures { ReadsAs view.clause_lists (reader g.clauses self.now.parts.wide self.now.parts.depth cursor.old.rest.now) result cursor.new.rest.now }
+        requires { Nests forms tree self.now.parts.wide self.now.parts.depth
+            (F.pre self.now.parts.inner) (F.post self.now.parts.inner) }
+        ensures { ReadsAs view.clause_lists
+            (reader g.clauses self.now.parts.wide self.now.parts.depth cursor.old.rest.now) result
+            cursor.new.rest.now }
     {
         repeat(
             self.parts.alloc,

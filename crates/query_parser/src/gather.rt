@@ -15,7 +15,8 @@ pub fn both_boxed_beside<A: Drop, B: Drop, C: Drop>(
     second: B,
     third: C,
 ) -> Result<(Box<A>, Box<B>, C), Stop>
-    ensures { MatchResult result (λ z. (z.0.value ≡ first) × (z.1.value ≡ second) × (z.2 ≡ third)) (λ e. e ≡ NoMemory) }
+    ensures { MatchResult result (λ z. (z.0.value ≡ first) × (z.1.value ≡ second) × (z.2 ≡ third))
+        (λ e. e ≡ NoMemory) }
 {
     let first = Box::new(alloc, first)?;
     let second = Box::new(alloc, second)?;
@@ -29,7 +30,9 @@ pub fn all_boxed<A: Drop, B: Drop, C: Drop>(
     second: B,
     third: C,
 ) -> Result<(Box<A>, Box<B>, Box<C>), Stop>
-    ensures { MatchResult result (λ z. (z.0.value ≡ first) × (z.1.value ≡ second) × (z.2.value ≡ third)) (λ e. e ≡ NoMemory) }
+    ensures { MatchResult result
+        (λ z. (z.0.value ≡ first) × (z.1.value ≡ second) × (z.2.value ≡ third))
+        (λ e. e ≡ NoMemory) }
 {
     let first = Box::new(alloc, first)?;
     let second = Box::new(alloc, second)?;
@@ -43,7 +46,10 @@ pub fn joined_beside<T: Drop, A: Drop>(
     others: Vec<Vec<T>>,
     part: A,
 ) -> Result<(Vec<T>, A), Stop>
-    ensures { MatchResult result (λ z. (z.0.items ≡ first.items ++ n.concat (map (λ l. l.items) others.items)) × (z.1 ≡ part)) (λ e. e ≡ NoMemory) }
+    ensures { MatchResult result
+        (λ z.
+        (z.0.items ≡ first.items ++ n.concat (map (λ l. l.items) others.items)) × (z.1 ≡ part))
+        (λ e. e ≡ NoMemory) }
 {
     let all = joined(first, others)?;
     Ok((all, part))

@@ -1,5 +1,5 @@
-//! The parser of queries: clauses, statements and modules, over the operators of `expression_parser`.
-//! Each production of the grammar is a function of its own.
+//! The parser of queries: clauses, statements and modules, over the operators of
+//! `expression_parser`. Each production of the grammar is a function of its own.
 #![tactic(auto)]
 
 mod clauses;

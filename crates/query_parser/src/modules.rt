@@ -38,7 +38,8 @@ pub fn read(
     part: Part,
     cursor: &mut Cursor<'_, Word>,
 ) -> Result<NamedExpr, Stop>
-    ensures { ReadsAs tree ((level forms wide depth part).read cursor.old.rest.now) result cursor.new.rest.now }
+    ensures { ReadsAs tree ((level forms wide depth part).read cursor.old.rest.now) result
+        cursor.new.rest.now }
 {
     let statements = Statements {
         parts: Parts {
@@ -60,7 +61,11 @@ fn put<V: Drop, F: Drop>(
     variables: &mut Vec<V>,
     functions: &mut Vec<F>,
 ) -> Result<(), Stop>
-    ensures { MatchResult result (λ _. (variables.new.items ≡ variables.old.items ++ variables_of (declared ∷ [])) × (functions.new.items ≡ functions.old.items ++ functions_of (declared ∷ []))) (λ e. e ≡ NoMemory) }
+    ensures { MatchResult result
+        (λ _.
+        (variables.new.items ≡ variables.old.items ++ variables_of (declared ∷ []))
+        × (functions.new.items ≡ functions.old.items ++ functions_of (declared ∷ [])))
+        (λ e. e ≡ NoMemory) }
 {
     match declared {
         Declared::Variable(variable) => {
@@ -80,7 +85,10 @@ fn sorted<V: Drop, F: Drop, E: Drop>(
     declarations: Vec<Declared<V, F>>,
     body: E,
 ) -> Result<(Vec<V>, Vec<F>, E), Stop>
-    ensures { MatchResult result (λ z. (z.0.items ≡ variables_of declarations.items) × (z.1.items ≡ functions_of declarations.items) × (z.2 ≡ body)) (λ e. e ≡ NoMemory) }
+    ensures { MatchResult result
+        (λ z.
+        (z.0.items ≡ variables_of declarations.items)
+        × (z.1.items ≡ functions_of declarations.items) × (z.2 ≡ body)) (λ e. e ≡ NoMemory) }
 {
     let mut variables = Vec::new(alloc);
     let mut functions = Vec::new(alloc);
@@ -96,7 +104,9 @@ fn module_with(
     declarations: Vec<Declaration>,
     body: NamedExpr,
 ) -> Result<Query, Stop>
-    ensures { MatchResult result (λ m. view.module_of m ≡ n.module_with (view.declarations declarations, tree body)) (λ e. e ≡ NoMemory) }
+    ensures { MatchResult result
+        (λ m. view.module_of m ≡ n.module_with (view.declarations declarations, tree body))
+        (λ e. e ≡ NoMemory) }
 {
     let (variables, functions, body) = sorted(alloc, declarations, body)?;
     Ok(Module {
@@ -120,7 +130,9 @@ impl Top {
     /// `Param`
     #[tactic(auto, unfolding(query_grammar::specs::Grammar::param))]
     fn param(&self, cursor: &mut Cursor<'_, Word>) -> Result<Param<Str, TypeName>, Stop>
-        ensures { ReadsAs (λ x. x) (top_reader g.param self.now.wide self.now.depth cursor.old.rest.now) result cursor.new.rest.now }
+        ensures { ReadsAs (λ x. x)
+            (top_reader g.param self.now.wide self.now.depth cursor.old.rest.now) result
+            cursor.new.rest.now }
     {
         let variable = variable(self.alloc, cursor)?;
         let of = or_give_up!(variable, as_type(self.alloc, cursor));
@@ -130,7 +142,9 @@ impl Top {
     /// `Param { "," Param }`
     #[tactic(auto, unfolding(query_grammar::specs::Grammar::param_list))]
     fn param_list(&self, cursor: &mut Cursor<'_, Word>) -> Result<Vec<Param<Str, TypeName>>, Stop>
-        ensures { ReadsAs (λ v. v.items) (top_reader g.param_list self.now.wide self.now.depth cursor.old.rest.now) result cursor.new.rest.now }
+        ensures { ReadsAs (λ v. v.items)
+            (top_reader g.param_list self.now.wide self.now.depth cursor.old.rest.now) result
+            cursor.new.rest.now }
     {
         list(self.alloc, Kind::Comma, |at| self.param(at), cursor)
     }
@@ -138,7 +152,9 @@ impl Top {
     /// `[ Param { "," Param } ]`
     #[tactic(auto, unfolding(query_grammar::specs::Grammar::some_params))]
     fn some_params(&self, cursor: &mut Cursor<'_, Word>) -> Result<Vec<Param<Str, TypeName>>, Stop>
-        ensures { ReadsAs (λ v. v.items) (top_reader g.some_params self.now.wide self.now.depth cursor.old.rest.now) result cursor.new.rest.now }
+        ensures { ReadsAs (λ v. v.items)
+            (top_reader g.some_params self.now.wide self.now.depth cursor.old.rest.now) result
+            cursor.new.rest.now }
     {
         if !cursor.sees(Kind::Var) {
             return Ok(Vec::new(self.alloc));
@@ -149,7 +165,9 @@ impl Top {
     /// `"(" [ Param { "," Param } ] ")"`
     #[tactic(auto, unfolding(query_grammar::specs::Grammar::params))]
     fn params(&self, cursor: &mut Cursor<'_, Word>) -> Result<Vec<Param<Str, TypeName>>, Stop>
-        ensures { ReadsAs (λ v. v.items) (top_reader g.params self.now.wide self.now.depth cursor.old.rest.now) result cursor.new.rest.now }
+        ensures { ReadsAs (λ v. v.items)
+            (top_reader g.params self.now.wide self.now.depth cursor.old.rest.now) result
+            cursor.new.rest.now }
     {
         cursor.expect(Kind::OpenParen)?;
         let params = self.some_params(cursor)?;
@@ -160,7 +178,9 @@ impl Top {
     /// `"{" Expr "}"`
     #[tactic(auto, unfolding(query_grammar::specs::Grammar::function_body))]
     fn function_body(&self, cursor: &mut Cursor<'_, Word>) -> Result<NamedExpr, Stop>
-        ensures { ReadsAs tree (top_reader g.function_body self.now.wide self.now.depth cursor.old.rest.now) result cursor.new.rest.now }
+        ensures { ReadsAs tree
+            (top_reader g.function_body self.now.wide self.now.depth cursor.old.rest.now) result
+            cursor.new.rest.now }
     {
         cursor.expect(Kind::OpenBrace)?;
         let body = read(self.alloc, self.wide, self.depth, Part::Expr, cursor)?;
@@ -171,7 +191,9 @@ impl Top {
     /// A variable, behind `declare`.
     #[tactic(auto, unfolding(query_grammar::specs::Grammar::variable_declaration))]
     fn variable_declaration(&self, cursor: &mut Cursor<'_, Word>) -> Result<Declaration, Stop>
-        ensures { ReadsAs view.declaration (top_reader g.variable_declaration self.now.wide self.now.depth cursor.old.rest.now) result cursor.new.rest.now }
+        ensures { ReadsAs view.declaration
+            (top_reader g.variable_declaration self.now.wide self.now.depth cursor.old.rest.now)
+            result cursor.new.rest.now }
     {
         cursor.expect(Kind::Variable)?;
         let variable = variable(self.alloc, cursor)?;
@@ -191,7 +213,9 @@ impl Top {
     /// A function, behind `declare`.
     #[tactic(auto, unfolding(query_grammar::specs::Grammar::function_declaration))]
     fn function_declaration(&self, cursor: &mut Cursor<'_, Word>) -> Result<Declaration, Stop>
-        ensures { ReadsAs view.declaration (top_reader g.function_declaration self.now.wide self.now.depth cursor.old.rest.now) result cursor.new.rest.now }
+        ensures { ReadsAs view.declaration
+            (top_reader g.function_declaration self.now.wide self.now.depth cursor.old.rest.now)
+            result cursor.new.rest.now }
     {
         cursor.expect(Kind::Function)?;
         let name = cursor.expect(Class::Name)?;
@@ -210,7 +234,9 @@ impl Top {
     /// `( Variable | Function ) ";"`
     #[tactic(auto, unfolding(query_grammar::specs::Grammar::declaration))]
     fn declaration(&self, cursor: &mut Cursor<'_, Word>) -> Result<Declaration, Stop>
-        ensures { ReadsAs view.declaration (top_reader g.declaration self.now.wide self.now.depth cursor.old.rest.now) result cursor.new.rest.now }
+        ensures { ReadsAs view.declaration
+            (top_reader g.declaration self.now.wide self.now.depth cursor.old.rest.now) result
+            cursor.new.rest.now }
     {
         cursor.expect(Kind::Declare)?;
         if cursor.sees(Kind::Variable) {
@@ -226,7 +252,9 @@ impl Top {
     /// `{ ( Variable | Function ) ";" }`
     #[tactic(auto, unfolding(query_grammar::specs::Grammar::declarations))]
     fn declarations(&self, cursor: &mut Cursor<'_, Word>) -> Result<Vec<Declaration>, Stop>
-        ensures { ReadsAs view.declarations (top_reader g.declarations self.now.wide self.now.depth cursor.old.rest.now) result cursor.new.rest.now }
+        ensures { ReadsAs view.declarations
+            (top_reader g.declarations self.now.wide self.now.depth cursor.old.rest.now) result
+            cursor.new.rest.now }
     {
         repeat(self.alloc, Kind::Declare, |at| self.declaration(at), cursor)
     }
@@ -234,7 +262,9 @@ impl Top {
     /// `Module`
     #[tactic(auto, unfolding(query_grammar::specs::Grammar::module_part))]
     pub fn module(&self, cursor: &mut Cursor<'_, Word>) -> Result<Query, Stop>
-        ensures { ReadsAs view.module_of (top_reader g.module_part self.now.wide self.now.depth cursor.old.rest.now) result cursor.new.rest.now }
+        ensures { ReadsAs view.module_of
+            (top_reader g.module_part self.now.wide self.now.depth cursor.old.rest.now) result
+            cursor.new.rest.now }
     {
         let declarations = self.declarations(cursor)?;
         let body = or_give_up!(

@@ -92,7 +92,11 @@ pub fn flwor_of(
     place: u32,
     value: NamedExpr,
 ) -> Result<NamedExpr, Stop>
-    ensures { MatchResult result (λ e. tree e ≡ n.flwor (view.placed_clauses first, (view.clause_lists others, (place, tree value)))) (λ e. e ≡ NoMemory) }
+    ensures { MatchResult result
+        (λ e.
+        tree e
+        ≡ n.flwor (view.placed_clauses first, (view.clause_lists others, (place, tree value))))
+        (λ e. e ≡ NoMemory) }
 {
     let (start, clauses) = first;
     let (clauses, value) = joined_beside(clauses, others, value)?;
@@ -113,7 +117,8 @@ pub fn quant_of(
     binds: Vec<Bind<Str, TypeName, NamedExpr>>,
     test: NamedExpr,
 ) -> Result<NamedExpr, Stop>
-    ensures { MatchResult result (λ e. tree e ≡ n.quant (word.now, (view.binds binds, tree test))) (λ e. e ≡ NoMemory) }
+    ensures { MatchResult result (λ e. tree e ≡ n.quant (word.now, (view.binds binds, tree test)))
+        (λ e. e ≡ NoMemory) }
 {
     let quantifier = quantifier_of(word.kind);
     let (test, binds) = boxed_beside(alloc, test, binds)?;
@@ -134,7 +139,9 @@ pub fn switch_of(
     cases: Vec<Case<NamedExpr>>,
     default: NamedExpr,
 ) -> Result<NamedExpr, Stop>
-    ensures { MatchResult result (λ e. tree e ≡ n.switch (place, (tree operand, (view.cases cases, tree default)))) (λ e. e ≡ NoMemory) }
+    ensures { MatchResult result
+        (λ e. tree e ≡ n.switch (place, (tree operand, (view.cases cases, tree default))))
+        (λ e. e ≡ NoMemory) }
 {
     let (operand, default, cases) = both_boxed_beside(alloc, operand, default, cases)?;
     Ok(Expr {
@@ -154,7 +161,12 @@ pub fn typeswitch_of(
     cases: Vec<TypeCase<Str, TypeName, NamedExpr>>,
     default: (Option<Placed<Str>>, NamedExpr),
 ) -> Result<NamedExpr, Stop>
-    ensures { MatchResult result (λ e. tree e ≡ n.typeswitch (place, (tree operand, (view.type_cases cases, view.type_default default)))) (λ e. e ≡ NoMemory) }
+    ensures { MatchResult result
+        (λ e.
+        tree e
+        ≡ n.typeswitch
+        (place, (tree operand, (view.type_cases cases, view.type_default default))))
+        (λ e. e ≡ NoMemory) }
 {
     let (variable, value) = default;
     let (operand, default, cases) = both_boxed_beside(alloc, operand, value, cases)?;
@@ -176,7 +188,9 @@ pub fn if_of(
     when_true: NamedExpr,
     when_false: NamedExpr,
 ) -> Result<NamedExpr, Stop>
-    ensures { MatchResult result (λ e. tree e ≡ n.if (place, (tree condition, (tree when_true, tree when_false)))) (λ e. e ≡ NoMemory) }
+    ensures { MatchResult result
+        (λ e. tree e ≡ n.if (place, (tree condition, (tree when_true, tree when_false))))
+        (λ e. e ≡ NoMemory) }
 {
     let (condition, when_true, when_false) = all_boxed(alloc, condition, when_true, when_false)?;
     Ok(Expr {
@@ -195,7 +209,8 @@ pub fn try_of(
     body: NamedExpr,
     catches: Vec<Catch<Str, NamedExpr>>,
 ) -> Result<NamedExpr, Stop>
-    ensures { MatchResult result (λ e. tree e ≡ n.try (place, (tree body, view.catches catches))) (λ e. e ≡ NoMemory) }
+    ensures { MatchResult result (λ e. tree e ≡ n.try (place, (tree body, view.catches catches)))
+        (λ e. e ≡ NoMemory) }
 {
     let (body, catches) = boxed_beside(alloc, body, catches)?;
     Ok(Expr {
@@ -211,7 +226,8 @@ pub fn catch_of(
     codes: Option<Vec<Str>>,
     body: NamedExpr,
 ) -> Result<Catch<Str, NamedExpr>, Stop>
-    ensures { MatchResult result (λ x. view.catch x ≡ n.catch (place, (view.codes codes, tree body))) (λ e. e ≡ NoMemory) }
+    ensures { MatchResult result
+        (λ x. view.catch x ≡ n.catch (place, (view.codes codes, tree body))) (λ e. e ≡ NoMemory) }
 {
     let error = or_give_up!((codes, body), error_variable(alloc, place));
     Ok(Catch { error, codes, body })

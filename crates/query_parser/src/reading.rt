@@ -23,8 +23,8 @@ use std::alloc::Global;
 /// Why a text is no query.
 #[derive(Debug, Drop)]
 pub enum ParseFault {
-    /// The text is refused at this byte: the first token that goes on with no beginning of a query is
-    /// there, or the text ends there.
+    /// The text is refused at this byte: the first token that goes on with no beginning of a
+    /// query is there, or the text ends there.
     ///
     /// The code is `PJST0003` where the tokens up to and with this one begin a query that is nested
     /// more than 100 deep, `PJST0001` where they begin one with a form of the language that is
@@ -44,7 +44,9 @@ fn reach(
     depth: usize,
     words: &[Word],
 ) -> Result<(Option<Query>, &[Word]), ParseFault>
-    ensures { MatchResult result (λ x. (part_of wide depth).read words.now ≡ outcome_of module_of x.0 x.1.now) (λ f. f ≡ NoMemory) }
+    ensures { MatchResult result
+        (λ x. (part_of wide depth).read words.now ≡ outcome_of module_of x.0 x.1.now)
+        (λ f. f ≡ NoMemory) }
 {
     let mut cursor = Cursor { rest: words };
     match (Top { alloc, wide, depth }).module(&mut cursor) {
@@ -55,7 +57,10 @@ fn reach(
 }
 
 fn begins(alloc: Global, wide: bool, words: &[Word]) -> Result<bool, ParseFault>
-    ensures { MatchResult result (λ b. MatchBool b (BeginsWithoutBound wide words.now) (BeginsWithoutBound wide words.now → ⊥)) (λ f. f ≡ NoMemory) }
+    ensures { MatchResult result
+        (λ b.
+        MatchBool b (BeginsWithoutBound wide words.now) (BeginsWithoutBound wide words.now → ⊥))
+        (λ f. f ≡ NoMemory) }
 {
     let (query, rest) = reach(alloc, wide, words.len(), words)?;
     discard(query);
@@ -103,7 +108,8 @@ fn refusal(alloc: Global, words: &[Word], rest: &[Word], end: u32) -> ParseFault
 /// The query of words, or where and why they are refused. `end` is the place where the text ends.
 fn query_of(alloc: Global, words: &[Word], end: u32) -> Result<Query, ParseFault>
     ensures found { IfOk result (λ query. Derives words.now (module_of query)) }
-    ensures only { (tree : Module) → Derives words.now tree → MatchResult result (λ query. module_of query ≡ tree) (λ f. f ≡ NoMemory) }
+    ensures only { (tree : Module) → Derives words.now tree
+        → MatchResult result (λ query. module_of query ≡ tree) (λ f. f ≡ NoMemory) }
     ensures refused { IfErr result (λ f. AreRefused words.now end f) }
 {
     let (query, rest) = reach(alloc, false, MAX_NESTING, words)?;
@@ -127,7 +133,8 @@ pub fn parse(alloc: Global, text: &str, tokens: &[Token]) -> Result<Query, Parse
     // What is read is in the grammar.
     ensures found { IfOk result (λ query. IsQuery text.now tokens.now (module_of query)) }
     // What is in the grammar is read, unless memory runs out. So there is at most one tree.
-    ensures only { (tree : Module) → IsQuery text.now tokens.now tree → MatchResult result (λ query. module_of query ≡ tree) (λ f. f ≡ NoMemory) }
+    ensures only { (tree : Module) → IsQuery text.now tokens.now tree
+        → MatchResult result (λ query. module_of query ≡ tree) (λ f. f ≡ NoMemory) }
     // What is refused is refused at the first token that goes on with no beginning, with its code.
     ensures refused { IfErr result (λ f. IsFault text.now tokens.now f) }
 {

@@ -22,7 +22,8 @@ use std::alloc::Global;
 
 /// The name of a code.
 fn catch_name(alloc: Global, cursor: &mut Cursor<'_, Word>) -> Result<Str, Stop>
-    ensures { ReadsAs (λ x. x) ((mapped n.name_of (one is_name)).read cursor.old.rest.now) result cursor.new.rest.now }
+    ensures { ReadsAs (λ x. x) ((mapped n.name_of (one is_name)).read cursor.old.rest.now) result
+        cursor.new.rest.now }
 {
     let word = cursor.expect(Class::Name)?;
     name_of(alloc, word)
@@ -34,8 +35,11 @@ impl<F: Fn(Global, bool, usize, Part, &mut Cursor<'_, Word>) -> Result<NamedExpr
     /// `"return" Single`
     #[tactic(auto, unfolding(query_grammar::specs::Grammar::returned))]
     pub fn returned(&self, cursor: &mut Cursor<'_, Word>) -> Result<NamedExpr, Stop>
-        requires { Nests forms tree self.now.parts.wide self.now.parts.depth (F.pre self.now.parts.inner) (F.post self.now.parts.inner) }
-        ensures { ReadsAs tree (reader g.returned self.now.parts.wide self.now.parts.depth cursor.old.rest.now) result cursor.new.rest.now }
+        requires { Nests forms tree self.now.parts.wide self.now.parts.depth
+            (F.pre self.now.parts.inner) (F.post self.now.parts.inner) }
+        ensures { ReadsAs tree
+            (reader g.returned self.now.parts.wide self.now.parts.depth cursor.old.rest.now)
+            result cursor.new.rest.now }
     {
         cursor.expect(Kind::Return)?;
         self.parts.inside(Part::Single, cursor)
@@ -44,8 +48,11 @@ impl<F: Fn(Global, bool, usize, Part, &mut Cursor<'_, Word>) -> Result<NamedExpr
     /// `Flwor`
     #[tactic(auto, unfolding(query_grammar::specs::Grammar::flwor))]
     pub fn flwor(&self, cursor: &mut Cursor<'_, Word>) -> Result<NamedExpr, Stop>
-        requires { Nests forms tree self.now.parts.wide self.now.parts.depth (F.pre self.now.parts.inner) (F.post self.now.parts.inner) }
-        ensures { ReadsAs tree (reader g.flwor self.now.parts.wide self.now.parts.depth cursor.old.rest.now) result cursor.new.rest.now }
+        requires { Nests forms tree self.now.parts.wide self.now.parts.depth
+            (F.pre self.now.parts.inner) (F.post self.now.parts.inner) }
+        ensures { ReadsAs tree
+            (reader g.flwor self.now.parts.wide self.now.parts.depth cursor.old.rest.now) result
+            cursor.new.rest.now }
     {
         if self.parts.depth == 0 {
             return Err(Stop::Refused);
@@ -63,8 +70,11 @@ impl<F: Fn(Global, bool, usize, Part, &mut Cursor<'_, Word>) -> Result<NamedExpr
         &self,
         cursor: &mut Cursor<'_, Word>,
     ) -> Result<Bind<Str, TypeName, NamedExpr>, Stop>
-        requires { Nests forms tree self.now.parts.wide self.now.parts.depth (F.pre self.now.parts.inner) (F.post self.now.parts.inner) }
-        ensures { ReadsAs view.bind (reader g.bind self.now.parts.wide self.now.parts.depth cursor.old.rest.now) result cursor.new.rest.now }
+        requires { Nests forms tree self.now.parts.wide self.now.parts.depth
+            (F.pre self.now.parts.inner) (F.post self.now.parts.inner) }
+        ensures { ReadsAs view.bind
+            (reader g.bind self.now.parts.wide self.now.parts.depth cursor.old.rest.now) result
+            cursor.new.rest.now }
     {
         let variable = variable(self.parts.alloc, cursor)?;
         let of = or_give_up!(variable, as_type(self.parts.alloc, cursor));
@@ -83,8 +93,11 @@ impl<F: Fn(Global, bool, usize, Part, &mut Cursor<'_, Word>) -> Result<NamedExpr
         &self,
         cursor: &mut Cursor<'_, Word>,
     ) -> Result<Vec<Bind<Str, TypeName, NamedExpr>>, Stop>
-        requires { Nests forms tree self.now.parts.wide self.now.parts.depth (F.pre self.now.parts.inner) (F.post self.now.parts.inner) }
-        ensures { ReadsAs view.binds (reader g.binds self.now.parts.wide self.now.parts.depth cursor.old.rest.now) result cursor.new.rest.now }
+        requires { Nests forms tree self.now.parts.wide self.now.parts.depth
+            (F.pre self.now.parts.inner) (F.post self.now.parts.inner) }
+        ensures { ReadsAs view.binds
+            (reader g.binds self.now.parts.wide self.now.parts.depth cursor.old.rest.now) result
+            cursor.new.rest.now }
     {
         list(self.parts.alloc, Kind::Comma, |at| self.bind(at), cursor)
     }
@@ -92,8 +105,11 @@ impl<F: Fn(Global, bool, usize, Part, &mut Cursor<'_, Word>) -> Result<NamedExpr
     /// `Quant`
     #[tactic(auto, unfolding(query_grammar::specs::Grammar::quant))]
     pub fn quant(&self, cursor: &mut Cursor<'_, Word>) -> Result<NamedExpr, Stop>
-        requires { Nests forms tree self.now.parts.wide self.now.parts.depth (F.pre self.now.parts.inner) (F.post self.now.parts.inner) }
-        ensures { ReadsAs tree (reader g.quant self.now.parts.wide self.now.parts.depth cursor.old.rest.now) result cursor.new.rest.now }
+        requires { Nests forms tree self.now.parts.wide self.now.parts.depth
+            (F.pre self.now.parts.inner) (F.post self.now.parts.inner) }
+        ensures { ReadsAs tree
+            (reader g.quant self.now.parts.wide self.now.parts.depth cursor.old.rest.now) result
+            cursor.new.rest.now }
     {
         if self.parts.depth == 0 {
             return Err(Stop::Refused);
@@ -108,8 +124,11 @@ impl<F: Fn(Global, bool, usize, Part, &mut Cursor<'_, Word>) -> Result<NamedExpr
     /// `"case" Single`
     #[tactic(auto, unfolding(query_grammar::specs::Grammar::case_test))]
     pub fn case_test(&self, cursor: &mut Cursor<'_, Word>) -> Result<NamedExpr, Stop>
-        requires { Nests forms tree self.now.parts.wide self.now.parts.depth (F.pre self.now.parts.inner) (F.post self.now.parts.inner) }
-        ensures { ReadsAs tree (reader g.case_test self.now.parts.wide self.now.parts.depth cursor.old.rest.now) result cursor.new.rest.now }
+        requires { Nests forms tree self.now.parts.wide self.now.parts.depth
+            (F.pre self.now.parts.inner) (F.post self.now.parts.inner) }
+        ensures { ReadsAs tree
+            (reader g.case_test self.now.parts.wide self.now.parts.depth cursor.old.rest.now)
+            result cursor.new.rest.now }
     {
         cursor.expect(Kind::Case)?;
         self.parts.inside(Part::Single, cursor)
@@ -118,8 +137,11 @@ impl<F: Fn(Global, bool, usize, Part, &mut Cursor<'_, Word>) -> Result<NamedExpr
     /// `"case" Single { "case" Single }`
     #[tactic(auto, unfolding(query_grammar::specs::Grammar::case_tests))]
     pub fn case_tests(&self, cursor: &mut Cursor<'_, Word>) -> Result<Vec<NamedExpr>, Stop>
-        requires { Nests forms tree self.now.parts.wide self.now.parts.depth (F.pre self.now.parts.inner) (F.post self.now.parts.inner) }
-        ensures { ReadsAs trees (reader g.case_tests self.now.parts.wide self.now.parts.depth cursor.old.rest.now) result cursor.new.rest.now }
+        requires { Nests forms tree self.now.parts.wide self.now.parts.depth
+            (F.pre self.now.parts.inner) (F.post self.now.parts.inner) }
+        ensures { ReadsAs trees
+            (reader g.case_tests self.now.parts.wide self.now.parts.depth cursor.old.rest.now)
+            result cursor.new.rest.now }
     {
         repeat_some(
             self.parts.alloc,
@@ -132,8 +154,11 @@ impl<F: Fn(Global, bool, usize, Part, &mut Cursor<'_, Word>) -> Result<NamedExpr
     /// `Case`
     #[tactic(auto, unfolding(query_grammar::specs::Grammar::case))]
     pub fn case(&self, cursor: &mut Cursor<'_, Word>) -> Result<Case<NamedExpr>, Stop>
-        requires { Nests forms tree self.now.parts.wide self.now.parts.depth (F.pre self.now.parts.inner) (F.post self.now.parts.inner) }
-        ensures { ReadsAs view.case (reader g.case self.now.parts.wide self.now.parts.depth cursor.old.rest.now) result cursor.new.rest.now }
+        requires { Nests forms tree self.now.parts.wide self.now.parts.depth
+            (F.pre self.now.parts.inner) (F.post self.now.parts.inner) }
+        ensures { ReadsAs view.case
+            (reader g.case self.now.parts.wide self.now.parts.depth cursor.old.rest.now) result
+            cursor.new.rest.now }
     {
         let tests = self.case_tests(cursor)?;
         let value = or_give_up!(tests, self.returned(cursor));
@@ -146,8 +171,11 @@ impl<F: Fn(Global, bool, usize, Part, &mut Cursor<'_, Word>) -> Result<NamedExpr
     /// `Case { Case }`
     #[tactic(auto, unfolding(query_grammar::specs::Grammar::cases))]
     pub fn cases(&self, cursor: &mut Cursor<'_, Word>) -> Result<Vec<Case<NamedExpr>>, Stop>
-        requires { Nests forms tree self.now.parts.wide self.now.parts.depth (F.pre self.now.parts.inner) (F.post self.now.parts.inner) }
-        ensures { ReadsAs view.cases (reader g.cases self.now.parts.wide self.now.parts.depth cursor.old.rest.now) result cursor.new.rest.now }
+        requires { Nests forms tree self.now.parts.wide self.now.parts.depth
+            (F.pre self.now.parts.inner) (F.post self.now.parts.inner) }
+        ensures { ReadsAs view.cases
+            (reader g.cases self.now.parts.wide self.now.parts.depth cursor.old.rest.now) result
+            cursor.new.rest.now }
     {
         repeat_some(self.parts.alloc, Kind::Case, |at| self.case(at), cursor)
     }
@@ -155,8 +183,11 @@ impl<F: Fn(Global, bool, usize, Part, &mut Cursor<'_, Word>) -> Result<NamedExpr
     /// `Switch`
     #[tactic(auto, unfolding(query_grammar::specs::Grammar::switch))]
     pub fn switch(&self, cursor: &mut Cursor<'_, Word>) -> Result<NamedExpr, Stop>
-        requires { Nests forms tree self.now.parts.wide self.now.parts.depth (F.pre self.now.parts.inner) (F.post self.now.parts.inner) }
-        ensures { ReadsAs tree (reader g.switch self.now.parts.wide self.now.parts.depth cursor.old.rest.now) result cursor.new.rest.now }
+        requires { Nests forms tree self.now.parts.wide self.now.parts.depth
+            (F.pre self.now.parts.inner) (F.post self.now.parts.inner) }
+        ensures { ReadsAs tree
+            (reader g.switch self.now.parts.wide self.now.parts.depth cursor.old.rest.now) result
+            cursor.new.rest.now }
     {
         if self.parts.depth == 0 {
             return Err(Stop::Refused);
@@ -172,8 +203,11 @@ impl<F: Fn(Global, bool, usize, Part, &mut Cursor<'_, Word>) -> Result<NamedExpr
     /// `[ Var "as" ]`
     #[tactic(auto, unfolding(query_grammar::specs::Grammar::case_variable))]
     pub fn case_variable(&self, cursor: &mut Cursor<'_, Word>) -> Result<Option<Placed<Str>>, Stop>
-        requires { Nests forms tree self.now.parts.wide self.now.parts.depth (F.pre self.now.parts.inner) (F.post self.now.parts.inner) }
-        ensures { ReadsAs (λ x. x) (reader g.case_variable self.now.parts.wide self.now.parts.depth cursor.old.rest.now) result cursor.new.rest.now }
+        requires { Nests forms tree self.now.parts.wide self.now.parts.depth
+            (F.pre self.now.parts.inner) (F.post self.now.parts.inner) }
+        ensures { ReadsAs (λ x. x)
+            (reader g.case_variable self.now.parts.wide self.now.parts.depth cursor.old.rest.now)
+            result cursor.new.rest.now }
     {
         if !cursor.sees(Kind::Var) {
             return Ok(None);
@@ -186,8 +220,11 @@ impl<F: Fn(Global, bool, usize, Part, &mut Cursor<'_, Word>) -> Result<NamedExpr
     /// `SeqType { "|" SeqType }`
     #[tactic(auto, unfolding(query_grammar::specs::Grammar::seq_types))]
     pub fn seq_types(&self, cursor: &mut Cursor<'_, Word>) -> Result<Vec<Placed<TypeName>>, Stop>
-        requires { Nests forms tree self.now.parts.wide self.now.parts.depth (F.pre self.now.parts.inner) (F.post self.now.parts.inner) }
-        ensures { ReadsAs (λ v. v.items) (reader g.seq_types self.now.parts.wide self.now.parts.depth cursor.old.rest.now) result cursor.new.rest.now }
+        requires { Nests forms tree self.now.parts.wide self.now.parts.depth
+            (F.pre self.now.parts.inner) (F.post self.now.parts.inner) }
+        ensures { ReadsAs (λ v. v.items)
+            (reader g.seq_types self.now.parts.wide self.now.parts.depth cursor.old.rest.now)
+            result cursor.new.rest.now }
     {
         list(
             self.parts.alloc,
@@ -203,8 +240,11 @@ impl<F: Fn(Global, bool, usize, Part, &mut Cursor<'_, Word>) -> Result<NamedExpr
         &self,
         cursor: &mut Cursor<'_, Word>,
     ) -> Result<TypeCase<Str, TypeName, NamedExpr>, Stop>
-        requires { Nests forms tree self.now.parts.wide self.now.parts.depth (F.pre self.now.parts.inner) (F.post self.now.parts.inner) }
-        ensures { ReadsAs view.type_case (reader g.type_case self.now.parts.wide self.now.parts.depth cursor.old.rest.now) result cursor.new.rest.now }
+        requires { Nests forms tree self.now.parts.wide self.now.parts.depth
+            (F.pre self.now.parts.inner) (F.post self.now.parts.inner) }
+        ensures { ReadsAs view.type_case
+            (reader g.type_case self.now.parts.wide self.now.parts.depth cursor.old.rest.now)
+            result cursor.new.rest.now }
     {
         cursor.expect(Kind::Case)?;
         let variable = self.case_variable(cursor)?;
@@ -223,8 +263,11 @@ impl<F: Fn(Global, bool, usize, Part, &mut Cursor<'_, Word>) -> Result<NamedExpr
         &self,
         cursor: &mut Cursor<'_, Word>,
     ) -> Result<Vec<TypeCase<Str, TypeName, NamedExpr>>, Stop>
-        requires { Nests forms tree self.now.parts.wide self.now.parts.depth (F.pre self.now.parts.inner) (F.post self.now.parts.inner) }
-        ensures { ReadsAs view.type_cases (reader g.type_cases self.now.parts.wide self.now.parts.depth cursor.old.rest.now) result cursor.new.rest.now }
+        requires { Nests forms tree self.now.parts.wide self.now.parts.depth
+            (F.pre self.now.parts.inner) (F.post self.now.parts.inner) }
+        ensures { ReadsAs view.type_cases
+            (reader g.type_cases self.now.parts.wide self.now.parts.depth cursor.old.rest.now)
+            result cursor.new.rest.now }
     {
         repeat_some(
             self.parts.alloc,
@@ -240,8 +283,11 @@ impl<F: Fn(Global, bool, usize, Part, &mut Cursor<'_, Word>) -> Result<NamedExpr
         &self,
         cursor: &mut Cursor<'_, Word>,
     ) -> Result<Option<Placed<Str>>, Stop>
-        requires { Nests forms tree self.now.parts.wide self.now.parts.depth (F.pre self.now.parts.inner) (F.post self.now.parts.inner) }
-        ensures { ReadsAs (λ x. x) (reader g.default_variable self.now.parts.wide self.now.parts.depth cursor.old.rest.now) result cursor.new.rest.now }
+        requires { Nests forms tree self.now.parts.wide self.now.parts.depth
+            (F.pre self.now.parts.inner) (F.post self.now.parts.inner) }
+        ensures { ReadsAs (λ x. x)
+            (reader g.default_variable self.now.parts.wide self.now.parts.depth
+            cursor.old.rest.now) result cursor.new.rest.now }
     {
         if !cursor.sees(Kind::Var) {
             return Ok(None);
@@ -256,8 +302,11 @@ impl<F: Fn(Global, bool, usize, Part, &mut Cursor<'_, Word>) -> Result<NamedExpr
         &self,
         cursor: &mut Cursor<'_, Word>,
     ) -> Result<(Option<Placed<Str>>, NamedExpr), Stop>
-        requires { Nests forms tree self.now.parts.wide self.now.parts.depth (F.pre self.now.parts.inner) (F.post self.now.parts.inner) }
-        ensures { ReadsAs view.type_default (reader g.type_default self.now.parts.wide self.now.parts.depth cursor.old.rest.now) result cursor.new.rest.now }
+        requires { Nests forms tree self.now.parts.wide self.now.parts.depth
+            (F.pre self.now.parts.inner) (F.post self.now.parts.inner) }
+        ensures { ReadsAs view.type_default
+            (reader g.type_default self.now.parts.wide self.now.parts.depth cursor.old.rest.now)
+            result cursor.new.rest.now }
     {
         cursor.expect(Kind::Default)?;
         let variable = self.default_variable(cursor)?;
@@ -268,8 +317,11 @@ impl<F: Fn(Global, bool, usize, Part, &mut Cursor<'_, Word>) -> Result<NamedExpr
     /// `Typeswitch`
     #[tactic(auto, unfolding(query_grammar::specs::Grammar::typeswitch))]
     pub fn typeswitch(&self, cursor: &mut Cursor<'_, Word>) -> Result<NamedExpr, Stop>
-        requires { Nests forms tree self.now.parts.wide self.now.parts.depth (F.pre self.now.parts.inner) (F.post self.now.parts.inner) }
-        ensures { ReadsAs tree (reader g.typeswitch self.now.parts.wide self.now.parts.depth cursor.old.rest.now) result cursor.new.rest.now }
+        requires { Nests forms tree self.now.parts.wide self.now.parts.depth
+            (F.pre self.now.parts.inner) (F.post self.now.parts.inner) }
+        ensures { ReadsAs tree
+            (reader g.typeswitch self.now.parts.wide self.now.parts.depth cursor.old.rest.now)
+            result cursor.new.rest.now }
     {
         if self.parts.depth == 0 {
             return Err(Stop::Refused);
@@ -283,8 +335,11 @@ impl<F: Fn(Global, bool, usize, Part, &mut Cursor<'_, Word>) -> Result<NamedExpr
 
     /// `If`, where it may stand.
     pub fn if_content(&self, cursor: &mut Cursor<'_, Word>) -> Result<NamedExpr, Stop>
-        requires { Nests forms tree self.now.parts.wide self.now.parts.depth (F.pre self.now.parts.inner) (F.post self.now.parts.inner) }
-        ensures { ReadsAs tree (reader view.if_content self.now.parts.wide self.now.parts.depth cursor.old.rest.now) result cursor.new.rest.now }
+        requires { Nests forms tree self.now.parts.wide self.now.parts.depth
+            (F.pre self.now.parts.inner) (F.post self.now.parts.inner) }
+        ensures { ReadsAs tree
+            (reader view.if_content self.now.parts.wide self.now.parts.depth cursor.old.rest.now)
+            result cursor.new.rest.now }
     {
         let place = cursor.expect(Kind::If)?.place;
         let condition = self.parts.in_parens(cursor)?;
@@ -300,8 +355,11 @@ impl<F: Fn(Global, bool, usize, Part, &mut Cursor<'_, Word>) -> Result<NamedExpr
 
     /// `If`
     pub fn if_then(&self, cursor: &mut Cursor<'_, Word>) -> Result<NamedExpr, Stop>
-        requires { Nests forms tree self.now.parts.wide self.now.parts.depth (F.pre self.now.parts.inner) (F.post self.now.parts.inner) }
-        ensures { ReadsAs tree (reader g.if self.now.parts.wide self.now.parts.depth cursor.old.rest.now) result cursor.new.rest.now }
+        requires { Nests forms tree self.now.parts.wide self.now.parts.depth
+            (F.pre self.now.parts.inner) (F.post self.now.parts.inner) }
+        ensures { ReadsAs tree
+            (reader g.if self.now.parts.wide self.now.parts.depth cursor.old.rest.now) result
+            cursor.new.rest.now }
     {
         let depth = self.parts.depth;
         if depth == 0 {
@@ -312,8 +370,11 @@ impl<F: Fn(Global, bool, usize, Part, &mut Cursor<'_, Word>) -> Result<NamedExpr
 
     /// `Name { "|" Name }`, as the names of codes.
     pub fn catch_names(&self, cursor: &mut Cursor<'_, Word>) -> Result<Vec<Str>, Stop>
-        requires { Nests forms tree self.now.parts.wide self.now.parts.depth (F.pre self.now.parts.inner) (F.post self.now.parts.inner) }
-        ensures { ReadsAs view.some_codes (reader view.named_codes self.now.parts.wide self.now.parts.depth cursor.old.rest.now) result cursor.new.rest.now }
+        requires { Nests forms tree self.now.parts.wide self.now.parts.depth
+            (F.pre self.now.parts.inner) (F.post self.now.parts.inner) }
+        ensures { ReadsAs view.some_codes
+            (reader view.named_codes self.now.parts.wide self.now.parts.depth cursor.old.rest.now)
+            result cursor.new.rest.now }
     {
         list(
             self.parts.alloc,
@@ -326,8 +387,11 @@ impl<F: Fn(Global, bool, usize, Part, &mut Cursor<'_, Word>) -> Result<NamedExpr
     /// `"*" | Name { "|" Name }`
     #[tactic(auto, unfolding(query_grammar::specs::Grammar::catch_codes))]
     pub fn catch_codes(&self, cursor: &mut Cursor<'_, Word>) -> Result<Option<Vec<Str>>, Stop>
-        requires { Nests forms tree self.now.parts.wide self.now.parts.depth (F.pre self.now.parts.inner) (F.post self.now.parts.inner) }
-        ensures { ReadsAs view.codes (reader g.catch_codes self.now.parts.wide self.now.parts.depth cursor.old.rest.now) result cursor.new.rest.now }
+        requires { Nests forms tree self.now.parts.wide self.now.parts.depth
+            (F.pre self.now.parts.inner) (F.post self.now.parts.inner) }
+        ensures { ReadsAs view.codes
+            (reader g.catch_codes self.now.parts.wide self.now.parts.depth cursor.old.rest.now)
+            result cursor.new.rest.now }
     {
         if cursor.sees(Kind::Star) {
             cursor.expect(Kind::Star)?;
@@ -340,8 +404,11 @@ impl<F: Fn(Global, bool, usize, Part, &mut Cursor<'_, Word>) -> Result<NamedExpr
     /// `Catch`
     #[tactic(auto, unfolding(query_grammar::specs::Grammar::catch))]
     pub fn catch(&self, cursor: &mut Cursor<'_, Word>) -> Result<Catch<Str, NamedExpr>, Stop>
-        requires { Nests forms tree self.now.parts.wide self.now.parts.depth (F.pre self.now.parts.inner) (F.post self.now.parts.inner) }
-        ensures { ReadsAs view.catch (reader g.catch self.now.parts.wide self.now.parts.depth cursor.old.rest.now) result cursor.new.rest.now }
+        requires { Nests forms tree self.now.parts.wide self.now.parts.depth
+            (F.pre self.now.parts.inner) (F.post self.now.parts.inner) }
+        ensures { ReadsAs view.catch
+            (reader g.catch self.now.parts.wide self.now.parts.depth cursor.old.rest.now) result
+            cursor.new.rest.now }
     {
         let place = cursor.expect(Kind::Catch)?.place;
         let codes = self.catch_codes(cursor)?;
@@ -352,16 +419,22 @@ impl<F: Fn(Global, bool, usize, Part, &mut Cursor<'_, Word>) -> Result<NamedExpr
     /// `Catch { Catch }`
     #[tactic(auto, unfolding(query_grammar::specs::Grammar::catches))]
     pub fn catches(&self, cursor: &mut Cursor<'_, Word>) -> Result<Vec<Catch<Str, NamedExpr>>, Stop>
-        requires { Nests forms tree self.now.parts.wide self.now.parts.depth (F.pre self.now.parts.inner) (F.post self.now.parts.inner) }
-        ensures { ReadsAs view.catches (reader g.catches self.now.parts.wide self.now.parts.depth cursor.old.rest.now) result cursor.new.rest.now }
+        requires { Nests forms tree self.now.parts.wide self.now.parts.depth
+            (F.pre self.now.parts.inner) (F.post self.now.parts.inner) }
+        ensures { ReadsAs view.catches
+            (reader g.catches self.now.parts.wide self.now.parts.depth cursor.old.rest.now) result
+            cursor.new.rest.now }
     {
         repeat_some(self.parts.alloc, Kind::Catch, |at| self.catch(at), cursor)
     }
 
     /// `Try`, where it may stand.
     pub fn try_content(&self, cursor: &mut Cursor<'_, Word>) -> Result<NamedExpr, Stop>
-        requires { Nests forms tree self.now.parts.wide self.now.parts.depth (F.pre self.now.parts.inner) (F.post self.now.parts.inner) }
-        ensures { ReadsAs tree (reader view.try_content self.now.parts.wide self.now.parts.depth cursor.old.rest.now) result cursor.new.rest.now }
+        requires { Nests forms tree self.now.parts.wide self.now.parts.depth
+            (F.pre self.now.parts.inner) (F.post self.now.parts.inner) }
+        ensures { ReadsAs tree
+            (reader view.try_content self.now.parts.wide self.now.parts.depth cursor.old.rest.now)
+            result cursor.new.rest.now }
     {
         let place = cursor.expect(Kind::Try)?.place;
         let body = self.parts.in_braces(cursor)?;
@@ -371,8 +444,11 @@ impl<F: Fn(Global, bool, usize, Part, &mut Cursor<'_, Word>) -> Result<NamedExpr
 
     /// `Try`
     pub fn try_catch(&self, cursor: &mut Cursor<'_, Word>) -> Result<NamedExpr, Stop>
-        requires { Nests forms tree self.now.parts.wide self.now.parts.depth (F.pre self.now.parts.inner) (F.post self.now.parts.inner) }
-        ensures { ReadsAs tree (reader g.try self.now.parts.wide self.now.parts.depth cursor.old.rest.now) result cursor.new.rest.now }
+        requires { Nests forms tree self.now.parts.wide self.now.parts.depth
+            (F.pre self.now.parts.inner) (F.post self.now.parts.inner) }
+        ensures { ReadsAs tree
+            (reader g.try self.now.parts.wide self.now.parts.depth cursor.old.rest.now) result
+            cursor.new.rest.now }
     {
         let depth = self.parts.depth;
         if depth == 0 {
@@ -384,8 +460,11 @@ impl<F: Fn(Global, bool, usize, Part, &mut Cursor<'_, Word>) -> Result<NamedExpr
     /// `Single`
     #[tactic(auto, unfolding(query_grammar::specs::Grammar::single))]
     pub fn single(&self, cursor: &mut Cursor<'_, Word>) -> Result<NamedExpr, Stop>
-        requires { Nests forms tree self.now.parts.wide self.now.parts.depth (F.pre self.now.parts.inner) (F.post self.now.parts.inner) }
-        ensures { ReadsAs tree (reader g.single self.now.parts.wide self.now.parts.depth cursor.old.rest.now) result cursor.new.rest.now }
+        requires { Nests forms tree self.now.parts.wide self.now.parts.depth
+            (F.pre self.now.parts.inner) (F.post self.now.parts.inner) }
+        ensures { ReadsAs tree
+            (reader g.single self.now.parts.wide self.now.parts.depth cursor.old.rest.now) result
+            cursor.new.rest.now }
     {
         let room = self.parts.depth > 0;
         if cursor.sees(Class::Flwor { room }) {
@@ -408,8 +487,11 @@ impl<F: Fn(Global, bool, usize, Part, &mut Cursor<'_, Word>) -> Result<NamedExpr
     /// `"," Single`
     #[tactic(auto, unfolding(query_grammar::specs::Grammar::comma_operand))]
     pub fn comma_operand(&self, cursor: &mut Cursor<'_, Word>) -> Result<Operand<NamedExpr>, Stop>
-        requires { Nests forms tree self.now.parts.wide self.now.parts.depth (F.pre self.now.parts.inner) (F.post self.now.parts.inner) }
-        ensures { ReadsAs operand (reader g.comma_operand self.now.parts.wide self.now.parts.depth cursor.old.rest.now) result cursor.new.rest.now }
+        requires { Nests forms tree self.now.parts.wide self.now.parts.depth
+            (F.pre self.now.parts.inner) (F.post self.now.parts.inner) }
+        ensures { ReadsAs operand
+            (reader g.comma_operand self.now.parts.wide self.now.parts.depth cursor.old.rest.now)
+            result cursor.new.rest.now }
     {
         let place = cursor.expect(Kind::Comma)?.place;
         let value = self.single(cursor)?;
@@ -422,8 +504,11 @@ impl<F: Fn(Global, bool, usize, Part, &mut Cursor<'_, Word>) -> Result<NamedExpr
         &self,
         cursor: &mut Cursor<'_, Word>,
     ) -> Result<Vec<Operand<NamedExpr>>, Stop>
-        requires { Nests forms tree self.now.parts.wide self.now.parts.depth (F.pre self.now.parts.inner) (F.post self.now.parts.inner) }
-        ensures { ReadsAs operands (reader g.comma_operands self.now.parts.wide self.now.parts.depth cursor.old.rest.now) result cursor.new.rest.now }
+        requires { Nests forms tree self.now.parts.wide self.now.parts.depth
+            (F.pre self.now.parts.inner) (F.post self.now.parts.inner) }
+        ensures { ReadsAs operands
+            (reader g.comma_operands self.now.parts.wide self.now.parts.depth cursor.old.rest.now)
+            result cursor.new.rest.now }
     {
         repeat(
             self.parts.alloc,
@@ -436,8 +521,11 @@ impl<F: Fn(Global, bool, usize, Part, &mut Cursor<'_, Word>) -> Result<NamedExpr
     /// `Expr`
     #[tactic(auto, unfolding(query_grammar::specs::Grammar::expr))]
     pub fn expr(&self, cursor: &mut Cursor<'_, Word>) -> Result<NamedExpr, Stop>
-        requires { Nests forms tree self.now.parts.wide self.now.parts.depth (F.pre self.now.parts.inner) (F.post self.now.parts.inner) }
-        ensures { ReadsAs tree (reader g.expr self.now.parts.wide self.now.parts.depth cursor.old.rest.now) result cursor.new.rest.now }
+        requires { Nests forms tree self.now.parts.wide self.now.parts.depth
+            (F.pre self.now.parts.inner) (F.post self.now.parts.inner) }
+        ensures { ReadsAs tree
+            (reader g.expr self.now.parts.wide self.now.parts.depth cursor.old.rest.now) result
+            cursor.new.rest.now }
     {
         let first = self.single(cursor)?;
         let rest = or_give_up!(first, self.comma_operands(cursor));

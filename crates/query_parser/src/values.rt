@@ -39,7 +39,8 @@ pub fn is_greatest(kind: Kind) -> bool
 
 /// The variable that a handler binds at its `catch`.
 pub fn error_variable(alloc: Global, place: u32) -> Result<Placed<Str>, Stop>
-    ensures { MatchResult result (λ x. x ≡ record { place = place; name = codes "err:code" }) (λ e. e ≡ NoMemory) }
+    ensures { MatchResult result (λ x. x ≡ record { place = place; name = codes "err:code" })
+        (λ e. e ≡ NoMemory) }
 {
     match Str::of(alloc, "err:code") {
         Ok(name) => Ok(Placed { place, name }),
@@ -58,7 +59,9 @@ pub fn one<T: Drop>(alloc: Global, item: T) -> Result<Vec<T>, Stop>
 
 /// A list with others behind it.
 pub fn joined<T: Drop>(first: Vec<T>, others: Vec<Vec<T>>) -> Result<Vec<T>, Stop>
-    ensures { MatchResult result (λ v. v.items ≡ first.items ++ n.concat (map (λ l. l.items) others.items)) (λ e. e ≡ NoMemory) }
+    ensures { MatchResult result
+        (λ v. v.items ≡ first.items ++ n.concat (map (λ l. l.items) others.items))
+        (λ e. e ≡ NoMemory) }
 {
     let mut found = first;
     for other in others {

@@ -25,9 +25,12 @@ abbrev mutual
   form_bindings (p.comma_form first rest) = bindings first ++ operands_bindings rest
   form_bindings (p.flwor_form clauses place result) = clauses_bindings clauses ++ bindings result
   form_bindings (p.quant_form quantifier binds test) = binds_bindings binds ++ bindings test
-  form_bindings (p.switch_form operand cases default) = bindings operand ++ cases_bindings cases ++ bindings default
-  form_bindings (p.typeswitch_form operand cases variable default) = bindings operand ++ type_cases_bindings cases ++ own_numbers variable ++ bindings default
-  form_bindings (p.if_form condition when_true when_false) = bindings condition ++ bindings when_true ++ bindings when_false
+  form_bindings (p.switch_form operand cases default) =
+      bindings operand ++ cases_bindings cases ++ bindings default
+  form_bindings (p.typeswitch_form operand cases variable default) =
+      bindings operand ++ type_cases_bindings cases ++ own_numbers variable ++ bindings default
+  form_bindings (p.if_form condition when_true when_false) =
+      bindings condition ++ bindings when_true ++ bindings when_false
   form_bindings (p.try_form body catches) = bindings body ++ catches_bindings catches
   form_bindings (p.or_form first rest) = bindings first ++ operands_bindings rest
   form_bindings (p.and_form first rest) = bindings first ++ operands_bindings rest
@@ -102,7 +105,8 @@ abbrev mutual
   cases_bindings (p.more_cases c cs) = case_bindings c ++ cases_bindings cs
 
   pub type_case_bindings : PlainTypeCase Slot Target SeqType → List ℕ
-  type_case_bindings (p.type_case_node variable types result) = own_numbers variable ++ bindings result
+  type_case_bindings (p.type_case_node variable types result) =
+      own_numbers variable ++ bindings result
 
   pub type_cases_bindings : PlainTypeCases Slot Target SeqType → List ℕ
   type_cases_bindings p.no_type_cases = []
@@ -141,7 +145,8 @@ abbrev mutual
   lookup_bindings (p.computed_lookup value) = bindings value
 
   pub clause_bindings : PlainClause Slot Target SeqType → List ℕ
-  clause_bindings (p.for_clause variable t allowing_empty position source) = own_number variable.name ++ own_numbers position ++ bindings source
+  clause_bindings (p.for_clause variable t allowing_empty position source) =
+      own_number variable.name ++ own_numbers position ++ bindings source
   clause_bindings (p.let_clause variable t value) = own_number variable.name ++ bindings value
   clause_bindings (p.keep_clause place test) = bindings test
   clause_bindings (p.group_clause place keys) = group_vars_bindings keys
@@ -154,7 +159,8 @@ abbrev mutual
 
   pub group_var_bindings : PlainGroupVar Slot Target SeqType → List ℕ
   group_var_bindings (p.stream_group_var variable) = own_number variable.name
-  group_var_bindings (p.computed_group_var variable value) = own_number variable.name ++ bindings value
+  group_var_bindings (p.computed_group_var variable value) =
+      own_number variable.name ++ bindings value
 
   pub group_vars_bindings : PlainGroupVars Slot Target SeqType → List ℕ
   group_vars_bindings p.no_group_vars = []

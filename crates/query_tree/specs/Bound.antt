@@ -1,6 +1,6 @@
 -- Whether all that an expression of a compiled tree uses is there: a variable is read only where it
--- is bound, a function is there and takes so many arguments, `$$` has an item, and a type of a cast is
--- one that a cast may have. A grouping variable always has an expression of its own.
+-- is bound, a function is there and takes so many arguments, `$$` has an item, and a type of a
+-- cast is one that a cast may have. A grouping variable always has an expression of its own.
 use Rattle.std.specs.Prelude.{ℕ, ◌+◌, Bool, true, false, ◌&&◌}
 use Rattle.seq_types.specs.declared.types.SeqType.{SeqType}
 use Rattle.query_tree.specs.declared.bound.Slot.{Slot}
@@ -28,7 +28,8 @@ after_keys s (p.more_group_vars k ks) = after_keys (after_key s k) ks
 
 -- the scope after a clause
 abbrev pub after_clause : Scope → PlainClause Slot Target SeqType → Scope
-after_clause s (p.for_clause variable t allowing_empty position source) = with_any (with_slot s variable.name) position
+after_clause s (p.for_clause variable t allowing_empty position source) =
+    with_any (with_slot s variable.name) position
 after_clause s (p.let_clause variable t value) = with_slot s variable.name
 after_clause s (p.keep_clause place test) = s
 after_clause s (p.group_clause place keys) = after_keys s keys
@@ -53,11 +54,17 @@ abbrev mutual
 
   pub form_bound : Scope → Form Slot Target SeqType → Bool
   form_bound s (p.comma_form first rest) = is_bound s first && operands_bound s rest
-  form_bound s (p.flwor_form clauses place result) = clauses_bound s clauses && is_bound (after_clauses s clauses) result
-  form_bound s (p.quant_form quantifier binds test) = binds_bound s binds && is_bound (after_binds s binds) test
-  form_bound s (p.switch_form operand cases default) = is_bound s operand && cases_bound s cases && is_bound s default
-  form_bound s (p.typeswitch_form operand cases variable default) = is_bound s operand && type_cases_bound s cases && may_bind_any s variable && is_bound (with_any s variable) default
-  form_bound s (p.if_form condition when_true when_false) = is_bound s condition && is_bound s when_true && is_bound s when_false
+  form_bound s (p.flwor_form clauses place result) =
+      clauses_bound s clauses && is_bound (after_clauses s clauses) result
+  form_bound s (p.quant_form quantifier binds test) =
+      binds_bound s binds && is_bound (after_binds s binds) test
+  form_bound s (p.switch_form operand cases default) =
+      is_bound s operand && cases_bound s cases && is_bound s default
+  form_bound s (p.typeswitch_form operand cases variable default) =
+      is_bound s operand && type_cases_bound s cases && may_bind_any s variable
+      && is_bound (with_any s variable) default
+  form_bound s (p.if_form condition when_true when_false) =
+      is_bound s condition && is_bound s when_true && is_bound s when_false
   form_bound s (p.try_form body catches) = is_bound s body && catches_bound s catches
   form_bound s (p.or_form first rest) = is_bound s first && operands_bound s rest
   form_bound s (p.and_form first rest) = is_bound s first && operands_bound s rest
@@ -86,7 +93,8 @@ abbrev mutual
   form_bound s (p.object_form pairs) = pairs_bound s pairs
   form_bound s (p.merge_form content) = content_bound s content
   form_bound s (p.array_form content) = content_bound s content
-  form_bound s (p.call_form function arguments) = may_call s function (how_many arguments) && trees_bound s arguments
+  form_bound s (p.call_form function arguments) =
+      may_call s function (how_many arguments) && trees_bound s arguments
 
   pub content_bound : Scope → MaybeTree Slot Target SeqType → Bool
   content_bound s p.no_tree = true
@@ -132,14 +140,16 @@ abbrev mutual
   cases_bound s (p.more_cases c cs) = case_bound s c && cases_bound s cs
 
   pub type_case_bound : Scope → PlainTypeCase Slot Target SeqType → Bool
-  type_case_bound s (p.type_case_node variable types result) = may_bind_any s variable && is_bound (with_any s variable) result
+  type_case_bound s (p.type_case_node variable types result) =
+      may_bind_any s variable && is_bound (with_any s variable) result
 
   pub type_cases_bound : Scope → PlainTypeCases Slot Target SeqType → Bool
   type_cases_bound s p.no_type_cases = true
   type_cases_bound s (p.more_type_cases c cs) = type_case_bound s c && type_cases_bound s cs
 
   pub catch_bound : Scope → PlainCatch Slot Target SeqType → Bool
-  catch_bound s (p.catch_node error codes body) = may_bind s error.name && is_bound (with_slot s error.name) body
+  catch_bound s (p.catch_node error codes body) =
+      may_bind s error.name && is_bound (with_slot s error.name) body
 
   pub catches_bound : Scope → PlainCatches Slot Target SeqType → Bool
   catches_bound s p.no_catches = true
@@ -171,7 +181,8 @@ abbrev mutual
   lookup_bound s (p.computed_lookup value) = is_bound s value
 
   pub clause_bound : Scope → PlainClause Slot Target SeqType → Bool
-  clause_bound s (p.for_clause variable t allowing_empty position source) = may_bind s variable.name && may_bind_any s position && is_bound s source
+  clause_bound s (p.for_clause variable t allowing_empty position source) =
+      may_bind s variable.name && may_bind_any s position && is_bound s source
   clause_bound s (p.let_clause variable t value) = may_bind s variable.name && is_bound s value
   clause_bound s (p.keep_clause place test) = is_bound s test
   clause_bound s (p.group_clause place keys) = group_vars_bound s keys
@@ -184,11 +195,13 @@ abbrev mutual
 
   pub group_var_bound : Scope → PlainGroupVar Slot Target SeqType → Bool
   group_var_bound s (p.stream_group_var variable) = false
-  group_var_bound s (p.computed_group_var variable value) = may_bind s variable.name && is_bound s value
+  group_var_bound s (p.computed_group_var variable value) =
+      may_bind s variable.name && is_bound s value
 
   pub group_vars_bound : Scope → PlainGroupVars Slot Target SeqType → Bool
   group_vars_bound s p.no_group_vars = true
-  group_vars_bound s (p.more_group_vars k ks) = group_var_bound s k && group_vars_bound (after_key s k) ks
+  group_vars_bound s (p.more_group_vars k ks) =
+      group_var_bound s k && group_vars_bound (after_key s k) ks
 
   pub order_key_bound : Scope → PlainOrderKey Slot Target SeqType → Bool
   order_key_bound s (p.order_key_node value descending empty_greatest) = is_bound s value

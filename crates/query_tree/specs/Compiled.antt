@@ -31,11 +31,17 @@ is_own number (Lines name) = false
 
 -- what a declared variable sees: the variables before it, and no declared function
 abbrev pub variable_scope : Locals → ℕ → Scope
-variable_scope locals number = record { locals = locals; globals = number; functions = []; item = false }
+variable_scope locals number =
+    record { locals = locals; globals = number; functions = []; item = false }
 
 -- what the body sees: all declarations
 abbrev pub body_scope : Locals → BoundTrees → Scope
-body_scope locals m = record { locals = locals; globals = length m.variables; functions = map (λ f. length f.params) m.functions; item = false }
+body_scope locals m = record {
+  locals = locals;
+  globals = length m.variables;
+  functions = map (λ f. length f.params) m.functions;
+  item = false;
+}
 
 abbrev pub after_params : Scope → List (Param Slot SeqType) → Scope
 after_params s [] = s
@@ -43,20 +49,27 @@ after_params s (q ∷ qs) = after_params (with_slot s q.variable.name) qs
 
 abbrev pub params_bound : Scope → List (Param Slot SeqType) → Bool
 params_bound s [] = true
-params_bound s (q ∷ qs) = may_bind s q.variable.name && params_bound (with_slot s q.variable.name) qs
+params_bound s (q ∷ qs) =
+    may_bind s q.variable.name && params_bound (with_slot s q.variable.name) qs
 
 -- whether the declared variables have the numbers from this one on, and their expressions are bound
 abbrev pub variables_bound : Locals → ℕ → List (PlainVariable Slot Target SeqType) → Bool
 variables_bound locals number [] = true
-variables_bound locals number (x ∷ xs) = is_global number x.variable.name && is_bound (variable_scope locals number) x.value && variables_bound locals (number + 1) xs
+variables_bound locals number (x ∷ xs) =
+    is_global number x.variable.name && is_bound (variable_scope locals number) x.value
+    && variables_bound locals (number + 1) xs
 
 -- the same of the declared functions, whose bodies see their parameters too
 abbrev pub functions_bound : Scope → ℕ → List (PlainFunction Slot Target SeqType) → Bool
 functions_bound s number [] = true
-functions_bound s number (f ∷ fs) = is_own number f.function.name && params_bound s f.params && is_bound (after_params s f.params) f.body && functions_bound s (number + 1) fs
+functions_bound s number (f ∷ fs) =
+    is_own number f.function.name && params_bound s f.params
+    && is_bound (after_params s f.params) f.body && functions_bound s (number + 1) fs
 
 abbrev pub module_bound : Locals → BoundTrees → Bool
-module_bound locals m = variables_bound locals 0 m.variables && functions_bound (body_scope locals m) 0 m.functions && is_bound (body_scope locals m) m.body
+module_bound locals m =
+    variables_bound locals 0 m.variables && functions_bound (body_scope locals m) 0 m.functions
+    && is_bound (body_scope locals m) m.body
 
 abbrev pub all_differ : List ℕ → Bool
 all_differ [] = true
@@ -83,9 +96,12 @@ is_compiled width m = module_bound (these []) m && module_apart width m
 
 -- that all expressions are bound over frames of this width, in which every slot may be read
 pub record IsFramed (width : ℕ) (m : BoundTrees) : Type 0 where
-  pub variables : (i : ℕ) (x : PlainVariable Slot Target SeqType) → slice_get m.variables i ≡ Some x → is_bound (variable_scope (below width) i) x.value ≡ true
-  pub params : (i : ℕ) (f : PlainFunction Slot Target SeqType) → slice_get m.functions i ≡ Some f → params_bound (body_scope (below width) m) f.params ≡ true
-  pub functions : (i : ℕ) (f : PlainFunction Slot Target SeqType) → slice_get m.functions i ≡ Some f → is_bound (body_scope (below width) m) f.body ≡ true
+  pub variables : (i : ℕ) (x : PlainVariable Slot Target SeqType) → slice_get m.variables i ≡ Some x
+      → is_bound (variable_scope (below width) i) x.value ≡ true
+  pub params : (i : ℕ) (f : PlainFunction Slot Target SeqType) → slice_get m.functions i ≡ Some f
+      → params_bound (body_scope (below width) m) f.params ≡ true
+  pub functions : (i : ℕ) (f : PlainFunction Slot Target SeqType) → slice_get m.functions i ≡ Some f
+      → is_bound (body_scope (below width) m) f.body ≡ true
   pub body : is_bound (body_scope (below width) m) m.body ≡ true
 
 -- a compiled query: its tree and the width of its frames

@@ -28,7 +28,16 @@ module _ (V F T : Type 0) where
   variable_of x = record { variable = x.variable; type = x.of; value = tree_of V F T x.value }
 
   abbrev pub function_of : Function V F T → PlainFunction V F T
-  function_of x = record { function = x.function; params = x.params.items; type = x.of; body = tree_of V F T x.body }
+  function_of x = record {
+    function = x.function;
+    params = x.params.items;
+    type = x.of;
+    body = tree_of V F T x.body;
+  }
 
   abbrev pub module_of : Module V F T → PlainModule V F T
-  module_of x = record { variables = map variable_of x.variables.items; functions = map function_of x.functions.items; body = tree_of V F T x.body }
+  module_of x = record {
+    variables = map variable_of x.variables.items;
+    functions = map function_of x.functions.items;
+    body = tree_of V F T x.body;
+  }

@@ -1,7 +1,8 @@
--- How deep a tree is nested: the greatest number of forms in it of which each holds the next one. The
--- forms that nest are a FLWOR, a quantifier, a switch, a typeswitch, an if and a try, parentheses, an
--- object, a merge, an array and a call, a step with an expression in brackets, and a look-up in
--- parentheses. An operator adds nothing, and a step doesn't hold the expression before it.
+-- How deep a tree is nested: the greatest number of forms in it of which each holds the next one.
+-- The forms that nest are a FLWOR, a quantifier, a switch, a typeswitch, an if and a try,
+-- parentheses, an object, a merge, an array and a call, a step with an expression in brackets,
+-- and a look-up in parentheses. An operator adds nothing, and a step doesn't hold the expression
+-- before it.
 use Rattle.std.specs.Prelude.{ℕ, ◌+◌, max, List, [], ◌∷◌}
 use Rattle.query_tree.specs.Modules.{PlainVariable, PlainFunction, PlainModule}
 use Rattle.query_tree.specs.Plain as p
@@ -13,11 +14,15 @@ abbrev mutual
 
   pub form_nesting : {V F T : Type 0} → Form V F T → ℕ
   form_nesting (p.comma_form first rest) = max (nesting first) (operands_nesting rest)
-  form_nesting (p.flwor_form clauses place result) = max (clauses_nesting clauses) (nesting result) + 1
+  form_nesting (p.flwor_form clauses place result) =
+      max (clauses_nesting clauses) (nesting result) + 1
   form_nesting (p.quant_form quantifier binds test) = max (binds_nesting binds) (nesting test) + 1
-  form_nesting (p.switch_form operand cases default) = max (nesting operand) (max (cases_nesting cases) (nesting default)) + 1
-  form_nesting (p.typeswitch_form operand cases variable default) = max (nesting operand) (max (type_cases_nesting cases) (nesting default)) + 1
-  form_nesting (p.if_form condition when_true when_false) = max (nesting condition) (max (nesting when_true) (nesting when_false)) + 1
+  form_nesting (p.switch_form operand cases default) =
+      max (nesting operand) (max (cases_nesting cases) (nesting default)) + 1
+  form_nesting (p.typeswitch_form operand cases variable default) =
+      max (nesting operand) (max (type_cases_nesting cases) (nesting default)) + 1
+  form_nesting (p.if_form condition when_true when_false) =
+      max (nesting condition) (max (nesting when_true) (nesting when_false)) + 1
   form_nesting (p.try_form body catches) = max (nesting body) (catches_nesting catches) + 1
   form_nesting (p.or_form first rest) = max (nesting first) (operands_nesting rest)
   form_nesting (p.and_form first rest) = max (nesting first) (operands_nesting rest)

@@ -38,8 +38,10 @@ mutual
     more_trees : Tree V F T → Trees V F T → Trees V F T
 
   pub data PlainClause (V F T : Type 0) : Type 0 where
-    for_clause : (variable : Placed V) → (of : Option (Placed T)) → (allowing_empty : Bool) → (at : Option (Placed V)) → (source : Tree V F T) → PlainClause V F T
-    let_clause : (variable : Placed V) → (of : Option (Placed T)) → (value : Tree V F T) → PlainClause V F T
+    for_clause : (variable : Placed V) → (of : Option (Placed T)) → (allowing_empty : Bool)
+        → (at : Option (Placed V)) → (source : Tree V F T) → PlainClause V F T
+    let_clause : (variable : Placed V) → (of : Option (Placed T)) → (value : Tree V F T)
+        → PlainClause V F T
     keep_clause : (place : ℕ) → (test : Tree V F T) → PlainClause V F T
     group_clause : (place : ℕ) → (keys : PlainGroupVars V F T) → PlainClause V F T
     order_clause : (place : ℕ) → (stable : Bool) → (keys : PlainOrderKeys V F T) → PlainClause V F T
@@ -52,15 +54,20 @@ mutual
   pub data Form (V F T : Type 0) : Type 0 where
     comma_form : (first : Tree V F T) → (rest : PlainOperands V F T) → Form V F T
     flwor_form : (clauses : PlainClauses V F T) → (place : ℕ) → (result : Tree V F T) → Form V F T
-    quant_form : (quantifier : Quantifier) → (binds : PlainBinds V F T) → (test : Tree V F T) → Form V F T
-    switch_form : (operand : Tree V F T) → (cases : PlainCases V F T) → (default : Tree V F T) → Form V F T
-    typeswitch_form : (operand : Tree V F T) → (cases : PlainTypeCases V F T) → (variable : Option (Placed V)) → (default : Tree V F T) → Form V F T
-    if_form : (condition : Tree V F T) → (when_true : Tree V F T) → (when_false : Tree V F T) → Form V F T
+    quant_form : (quantifier : Quantifier) → (binds : PlainBinds V F T) → (test : Tree V F T)
+        → Form V F T
+    switch_form : (operand : Tree V F T) → (cases : PlainCases V F T) → (default : Tree V F T)
+        → Form V F T
+    typeswitch_form : (operand : Tree V F T) → (cases : PlainTypeCases V F T)
+        → (variable : Option (Placed V)) → (default : Tree V F T) → Form V F T
+    if_form : (condition : Tree V F T) → (when_true : Tree V F T) → (when_false : Tree V F T)
+        → Form V F T
     try_form : (body : Tree V F T) → (catches : PlainCatches V F T) → Form V F T
     or_form : (first : Tree V F T) → (rest : PlainOperands V F T) → Form V F T
     and_form : (first : Tree V F T) → (rest : PlainOperands V F T) → Form V F T
     not_form : (operand : Tree V F T) → Form V F T
-    compare_form : (left : Tree V F T) → (op : CompareOp) → (place : ℕ) → (right : Tree V F T) → Form V F T
+    compare_form : (left : Tree V F T) → (op : CompareOp) → (place : ℕ) → (right : Tree V F T)
+        → Form V F T
     concat_form : (first : Tree V F T) → (rest : PlainOperands V F T) → Form V F T
     range_form : (left : Tree V F T) → (place : ℕ) → (right : Tree V F T) → Form V F T
     sum_form : (first : Tree V F T) → (rest : PlainTerms V F T) → Form V F T
@@ -95,7 +102,8 @@ mutual
     more_group_vars : PlainGroupVar V F T → PlainGroupVars V F T → PlainGroupVars V F T
 
   pub data PlainOrderKey (V F T : Type 0) : Type 0 where
-    order_key_node : (value : Tree V F T) → (descending : Bool) → (empty_greatest : Bool) → PlainOrderKey V F T
+    order_key_node : (value : Tree V F T) → (descending : Bool) → (empty_greatest : Bool)
+        → PlainOrderKey V F T
 
   pub data PlainOrderKeys (V F T : Type 0) : Type 0 where
     no_order_keys : PlainOrderKeys V F T
@@ -123,7 +131,8 @@ mutual
     more_factors : PlainFactor V F T → PlainFactors V F T → PlainFactors V F T
 
   pub data PlainBind (V F T : Type 0) : Type 0 where
-    bind_node : (variable : Placed V) → (of : Option (Placed T)) → (source : Tree V F T) → PlainBind V F T
+    bind_node : (variable : Placed V) → (of : Option (Placed T)) → (source : Tree V F T)
+        → PlainBind V F T
 
   pub data PlainBinds (V F T : Type 0) : Type 0 where
     no_binds : PlainBinds V F T
@@ -137,14 +146,16 @@ mutual
     more_cases : PlainCase V F T → PlainCases V F T → PlainCases V F T
 
   pub data PlainTypeCase (V F T : Type 0) : Type 0 where
-    type_case_node : (variable : Option (Placed V)) → (types : List (Placed T)) → (result : Tree V F T) → PlainTypeCase V F T
+    type_case_node : (variable : Option (Placed V)) → (types : List (Placed T))
+        → (result : Tree V F T) → PlainTypeCase V F T
 
   pub data PlainTypeCases (V F T : Type 0) : Type 0 where
     no_type_cases : PlainTypeCases V F T
     more_type_cases : PlainTypeCase V F T → PlainTypeCases V F T → PlainTypeCases V F T
 
   pub data PlainCatch (V F T : Type 0) : Type 0 where
-    catch_node : (error : Placed V) → (codes : Option (List (List ℕ))) → (body : Tree V F T) → PlainCatch V F T
+    catch_node : (error : Placed V) → (codes : Option (List (List ℕ))) → (body : Tree V F T)
+        → PlainCatch V F T
 
   pub data PlainCatches (V F T : Type 0) : Type 0 where
     no_catches : PlainCatches V F T
@@ -281,37 +292,56 @@ module _ (V F T : Type 0) where
   step_layer (step.Filter place' test') = filter_step place' test'
   step_layer (step.Field place' key') = field_step place' (lookup_layer key')
 
-  abbrev pub clause_layer : Clause-F V F T (PlainClause V F T) (Form V F T) (Tree V F T) → PlainClause V F T
-  clause_layer (node.For variable' of' allowing_empty' at' source') = for_clause variable' of' allowing_empty' at' source'
+  abbrev pub clause_layer : Clause-F V F T (PlainClause V F T) (Form V F T) (Tree V F T)
+      → PlainClause V F T
+  clause_layer (node.For variable' of' allowing_empty' at' source') =
+      for_clause variable' of' allowing_empty' at' source'
   clause_layer (node.Let variable' of' value') = let_clause variable' of' value'
   clause_layer (node.Keep place' test') = keep_clause place' test'
-  clause_layer (node.Group place' keys') = group_clause place' (group_vars_of (map group_var_layer keys'.items))
-  clause_layer (node.Order place' stable' keys') = order_clause place' stable' (order_keys_of (map order_key_layer keys'.items))
+  clause_layer (node.Group place' keys') =
+      group_clause place' (group_vars_of (map group_var_layer keys'.items))
+  clause_layer (node.Order place' stable' keys') =
+      order_clause place' stable' (order_keys_of (map order_key_layer keys'.items))
   clause_layer (node.Count place' variable') = count_clause place' variable'
 
   abbrev pub kind_layer : Kind-F V F T (PlainClause V F T) (Form V F T) (Tree V F T) → Form V F T
-  kind_layer (node.Comma first' rest') = comma_form first'.value (operands_of (map operand_layer rest'.items))
-  kind_layer (node.Flwor clauses' place' result') = flwor_form (clauses_of clauses'.items) place' result'.value
-  kind_layer (node.Quant quantifier' binds' test') = quant_form quantifier' (binds_of (map bind_layer binds'.items)) test'.value
-  kind_layer (node.Switch operand' cases' default') = switch_form operand'.value (cases_of (map case_layer cases'.items)) default'.value
-  kind_layer (node.Typeswitch operand' cases' variable' default') = typeswitch_form operand'.value (type_cases_of (map type_case_layer cases'.items)) variable' default'.value
-  kind_layer (node.If condition' when_true' when_false') = if_form condition'.value when_true'.value when_false'.value
-  kind_layer (node.Try body' catches') = try_form body'.value (catches_of (map catch_layer catches'.items))
-  kind_layer (node.Or first' rest') = or_form first'.value (operands_of (map operand_layer rest'.items))
-  kind_layer (node.And first' rest') = and_form first'.value (operands_of (map operand_layer rest'.items))
+  kind_layer (node.Comma first' rest') =
+      comma_form first'.value (operands_of (map operand_layer rest'.items))
+  kind_layer (node.Flwor clauses' place' result') =
+      flwor_form (clauses_of clauses'.items) place' result'.value
+  kind_layer (node.Quant quantifier' binds' test') =
+      quant_form quantifier' (binds_of (map bind_layer binds'.items)) test'.value
+  kind_layer (node.Switch operand' cases' default') =
+      switch_form operand'.value (cases_of (map case_layer cases'.items)) default'.value
+  kind_layer (node.Typeswitch operand' cases' variable' default') =
+      typeswitch_form operand'.value (type_cases_of (map type_case_layer cases'.items)) variable'
+      default'.value
+  kind_layer (node.If condition' when_true' when_false') =
+      if_form condition'.value when_true'.value when_false'.value
+  kind_layer (node.Try body' catches') =
+      try_form body'.value (catches_of (map catch_layer catches'.items))
+  kind_layer (node.Or first' rest') =
+      or_form first'.value (operands_of (map operand_layer rest'.items))
+  kind_layer (node.And first' rest') =
+      and_form first'.value (operands_of (map operand_layer rest'.items))
   kind_layer (node.Not operand') = not_form operand'.value
-  kind_layer (node.Compare left' op' place' right') = compare_form left'.value op' place' right'.value
-  kind_layer (node.Concat first' rest') = concat_form first'.value (operands_of (map operand_layer rest'.items))
+  kind_layer (node.Compare left' op' place' right') =
+      compare_form left'.value op' place' right'.value
+  kind_layer (node.Concat first' rest') =
+      concat_form first'.value (operands_of (map operand_layer rest'.items))
   kind_layer (node.Range left' place' right') = range_form left'.value place' right'.value
   kind_layer (node.Sum first' rest') = sum_form first'.value (terms_of (map term_layer rest'.items))
-  kind_layer (node.Product first' rest') = product_form first'.value (factors_of (map factor_layer rest'.items))
+  kind_layer (node.Product first' rest') =
+      product_form first'.value (factors_of (map factor_layer rest'.items))
   kind_layer (node.Instance operand' place' of') = instance_form operand'.value place' of'
   kind_layer (node.Treat operand' place' to') = treat_form operand'.value place' to'
   kind_layer (node.Castable operand' place' to') = castable_form operand'.value place' to'
   kind_layer (node.Cast operand' place' to') = cast_form operand'.value place' to'
   kind_layer (node.Sign signs' operand') = sign_form signs'.items operand'.value
-  kind_layer (node.Map first' rest') = map_form first'.value (operands_of (map operand_layer rest'.items))
-  kind_layer (node.Postfix primary' steps') = postfix_form primary'.value (steps_of (map step_layer steps'.items))
+  kind_layer (node.Map first' rest') =
+      map_form first'.value (operands_of (map operand_layer rest'.items))
+  kind_layer (node.Postfix primary' steps') =
+      postfix_form primary'.value (steps_of (map step_layer steps'.items))
   kind_layer (node.Int value') = int_form value'
   kind_layer (node.Dec value') = dec_form value'
   kind_layer (node.Text value') = text_form value'
@@ -330,13 +360,19 @@ module _ (V F T : Type 0) where
   expr_layer x = tree_node x.place x.kind
 
   unfoldable pub clause_of : Clause V F T → PlainClause V F T
-  clause_of = fold-Clause V F T (PlainClause V F T) (Form V F T) (Tree V F T) clause_layer kind_layer expr_layer
+  clause_of =
+      fold-Clause V F T (PlainClause V F T) (Form V F T) (Tree V F T) clause_layer kind_layer
+      expr_layer
 
   unfoldable pub form_of : Kind V F T → Form V F T
-  form_of = fold-Kind V F T (PlainClause V F T) (Form V F T) (Tree V F T) clause_layer kind_layer expr_layer
+  form_of =
+      fold-Kind V F T (PlainClause V F T) (Form V F T) (Tree V F T) clause_layer kind_layer
+      expr_layer
 
   unfoldable pub tree_of : Expr V F T → Tree V F T
-  tree_of = fold-Expr V F T (PlainClause V F T) (Form V F T) (Tree V F T) clause_layer kind_layer expr_layer
+  tree_of =
+      fold-Expr V F T (PlainClause V F T) (Form V F T) (Tree V F T) clause_layer kind_layer
+      expr_layer
 
   abbrev pub maybe_tree_of : Option (Box (Expr V F T) Global) → MaybeTree V F T
   maybe_tree_of None = no_tree

@@ -93,7 +93,8 @@ is_at_most_one One = true
 is_at_most_one Optional = true
 is_at_most_one _ = false
 
--- whether a cast may have this type: at most one string, integer, decimal, boolean, null, date or date-time
+-- whether a cast may have this type: at most one string, integer, decimal, boolean, null, date or
+-- date-time
 abbrev pub is_cast_type : SeqType → Bool
 is_cast_type Empty = false
 is_cast_type (Of item times) = is_atomic_name item && is_at_most_one times

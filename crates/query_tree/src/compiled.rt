@@ -29,7 +29,8 @@ impl Model for Compiled {
 
     ghost Value = { CompiledTree };
 
-    ghost coded = { Prim.hlevel (codes, (expr.the_row slot.the_row target.the_row types.the_row).coded) };
+    ghost coded = { Prim.hlevel
+        (codes, (expr.the_row slot.the_row target.the_row types.the_row).coded) };
 
     ghost view = { λ c. record { tree = c.tree; width = c.width } };
 

@@ -5,7 +5,8 @@ pub enum Quantifier {
     Every,
 }
 
-/// The operator of a comparison: of two values by a word, or of all pairs of two sequences by a sign.
+/// The operator of a comparison: of two values by a word, or of all pairs of two sequences by a
+/// sign.
 #[derive(Clone, Copy, Debug, PartialEq, Eq)]
 pub enum CompareOp {
     /// `eq`

@@ -1,9 +1,9 @@
 use crate::{Placed, ProductOp, SumOp};
 use item_tree::Str;
 
-// A part is over the type of the expressions that it holds, which stands last. So it stands outside the
-// knot of types that lead back to one another: what it costs to check a crate that drops a tree grows
-// fast with the number of types in that knot.
+// A part is over the type of the expressions that it holds, which stands last. So it stands
+// outside the knot of types that lead back to one another: what it costs to check a crate that
+// drops a tree grows fast with the number of types in that knot.
 
 /// A further operand of `,`, `or`, `and`, `||` or `!`, with the place of the operator before it.
 #[derive(Drop)]

@@ -1,4 +1,5 @@
--- The answer to a command line over a world of inputs: a status, with the bytes for the output and for the errors.
+-- The answer to a command line over a world of inputs: a status, with the bytes for the output
+-- and for the errors.
 use Rattle.std.specs.Prelude.{◌≡◌, ℕ, List, [], ◌∷◌, ◌++◌, Option, None, Some, IfSome, Result, Ok, Err, codes}
 use Rattle.std.specs.Fmt.{decimal}
 use Rattle.std.specs.Str.{encode_utf8_all}
@@ -99,18 +100,23 @@ of_front task text world (Err fault) = refused text fault
 
 -- the answer to a query of these bytes
 abbrev pub IsOfQuery : Task → World → List ℕ → Answer → Type 0
-IsOfQuery task world query answer = (front : Front) × IsFront query front × (answer ≡ of_front task (without_mark query) world front)
+IsOfQuery task world query answer =
+    (front : Front) × IsFront query front
+    × (answer ≡ of_front task (without_mark query) world front)
 
 abbrev pub IsOfFile : Task → List ℕ → World → Option (List ℕ) → Answer → Type 0
-IsOfFile task name world None answer = answer ≡ says NoQuery (codes "no query " ++ encode_utf8_all name)
+IsOfFile task name world None answer =
+    answer ≡ says NoQuery (codes "no query " ++ encode_utf8_all name)
 IsOfFile task name world (Some query) answer = IsOfQuery task world query answer
 
 abbrev pub usage : Answer
-usage = says Usage (codes "usage: rumble run QUERY | check QUERY | explain QUERY | trial NUMBER LINES")
+usage =
+    says Usage (codes "usage: rumble run QUERY | check QUERY | explain QUERY | trial NUMBER LINES")
 
 abbrev pub IsOfCommand : World → Option (Task × List ℕ) → Answer → Type 0
 IsOfCommand world None answer = answer ≡ usage
-IsOfCommand world (Some command) answer = IsOfFile command.0 command.1 world (file_of world command.1) answer
+IsOfCommand world (Some command) answer =
+    IsOfFile command.0 command.1 world (file_of world command.1) answer
 
 -- the answer to a command line over a world; by a law there is one, and only one
 unfoldable pub IsAnswer : List (List ℕ) → World → Answer → Type 0
@@ -118,4 +124,5 @@ IsAnswer words world answer = IsOfCommand world (command_of words) answer
 
 -- where the world is told, this holds of the answer
 abbrev pub OfAnswer : Option World → List (List ℕ) → (Answer → Type 0) → Type 0
-OfAnswer world words Holds = IfSome world (λ w. (answer : Answer) → IsAnswer words w answer → Holds answer)
+OfAnswer world words Holds =
+    IfSome world (λ w. (answer : Answer) → IsAnswer words w answer → Holds answer)

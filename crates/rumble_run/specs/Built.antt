@@ -28,7 +28,8 @@ with_place place (Some name) = Some (name, place)
 abbrev pub input_of_body : BoundTree → Option (Name × ℕ)
 input_of_body (tree_node place form) = with_place place (input_of_form form)
 
-abbrev pub input_where : List (PlainVariable Slot Target SeqType) → List (PlainFunction Slot Target SeqType) → BoundTree → Option (Name × ℕ)
+abbrev pub input_where : List (PlainVariable Slot Target SeqType)
+    → List (PlainFunction Slot Target SeqType) → BoundTree → Option (Name × ℕ)
 input_where [] [] body = input_of_body body
 input_where _ _ body = None
 

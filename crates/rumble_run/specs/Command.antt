@@ -5,7 +5,9 @@ use Rattle.rumble_run.specs.declared.words.Task.{Task}
 use Rattle.rumble_run.specs.declared.words.Task.TheVariants.{Run, Check}
 
 abbrev pub task_of : List ℕ → Option Task
-task_of word = if bytes_eq word (codes "run") then Some Run else (if bytes_eq word (codes "check") then Some Check else None)
+task_of word =
+    if bytes_eq word (codes "run") then Some Run
+    else (if bytes_eq word (codes "check") then Some Check else None)
 
 abbrev pub begins_with_dash : List ℕ → Bool
 begins_with_dash word = slice_index word 0 == 45

@@ -99,7 +99,8 @@ LooksForNone before after = (after.opened ≡ before.opened) × (after.misses �
 abbrev pub Calm : ℕ → ℕ → Type 0
 Calm before after = (after ≤ before) × (after < 2 ^ 64 - 1)
 
--- where no object that was handed in failed, the call ends with the answer's status, or for want of memory
+-- where no object that was handed in failed, the call ends with the answer's status, or for want
+-- of memory
 abbrev pub Completes : Answer → Status → Type 0
 Completes a status = (status ≡ NoMemory) ⊎ (status ≡ a.status)
 

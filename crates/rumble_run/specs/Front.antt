@@ -1,4 +1,5 @@
--- The front of a query: the compiled tree that its bytes come to, or why they are refused and where.
+-- The front of a query: the compiled tree that its bytes come to, or why they are refused and
+-- where.
 use Rattle.std.specs.Prelude.{◌≡◌, ◌⊎◌, ◌<◌, ◌≤◌, ℕ, List, Option, Some, None, length, take, Result, Ok, Err}
 use Rattle.std.specs.Str.{IsUtf8}
 use Rattle.item_tree.specs.declared.code.Code.{Code}
@@ -27,8 +28,8 @@ Front = Result BoundTrees Fault
 abbrev pub refused_at : Code → ℕ → Front
 refused_at code place = Err (fault_at code place)
 
--- the first so many bytes are the longest beginning that is UTF-8, and more bytes follow: the first of
--- them is part of no character
+-- the first so many bytes are the longest beginning that is UTF-8, and more bytes follow: the
+-- first of them is part of no character
 pub record BreaksAt (bytes : List ℕ) (place : ℕ) : Type 0 where
   pub short : place < length bytes
   pub before : IsUtf8 (take place bytes)
@@ -46,7 +47,8 @@ static_front query = front_by query (refusal query)
 -- tokens are refused by the grammar, or derive a query
 abbrev pub IsFrontOfTokens : List ℕ → List Token → Front → Type 0
 IsFrontOfTokens text tokens front =
-    ((code : Code) × (place : ℕ) × IsFault text tokens (fault.Refused code place) × (front ≡ refused_at code place))
+    ((code : Code) × (place : ℕ) × IsFault text tokens (fault.Refused code place)
+    × (front ≡ refused_at code place))
     ⊎ ((query : Module) × IsQuery text tokens query × (front ≡ static_front query))
 
 -- a text is refused by the lexical rules, or has tokens
@@ -61,7 +63,8 @@ IsFrontBehindMark bytes front =
     ((place : ℕ) × BreaksAt bytes place × (front ≡ refused_at XPST0003 place))
     ⊎ (IsUtf8 bytes × IsFrontOfText bytes front)
 
--- a query is refused where it is too long; else its bytes behind a byte order mark decide, and places count in them
+-- a query is refused where it is too long; else its bytes behind a byte order mark decide, and
+-- places count in them
 abbrev pub IsFront : List ℕ → Front → Type 0
 IsFront query front =
     ((max_length < length query) × (front ≡ refused_at PJST0005 0))

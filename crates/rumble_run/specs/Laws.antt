@@ -12,4 +12,5 @@ pub record HasOneFront (query : List ℕ) : Type 0 where
 -- a command line has an answer over a world, and no other
 pub record HasOneAnswer (words : List (List ℕ)) (world : World) : Type 0 where
   pub some : (answer : Answer) × IsAnswer words world answer
-  pub only : (answer other : Answer) → IsAnswer words world answer → IsAnswer words world other → answer ≡ other
+  pub only : (answer other : Answer) → IsAnswer words world answer → IsAnswer words world other
+      → answer ≡ other

@@ -12,7 +12,8 @@ line_of query place = count_by (λ b. b == 10) (take place query) + 1
 
 -- one more than the characters from the line's start to the place
 abbrev pub column_of : List ℕ → ℕ → ℕ
-column_of query place = count_by begins_character (take_while (λ b. not (b == 10)) (reverse (take place query))) + 1
+column_of query place =
+    count_by begins_character (take_while (λ b. not (b == 10)) (reverse (take place query))) + 1
 
 abbrev pub place_text : List ℕ → ℕ → List ℕ
 place_text query place = decimal (line_of query place) ++ 58 ∷ decimal (column_of query place)

@@ -32,7 +32,8 @@ abbrev pub IsUsage : Option (Task × List ℕ) → Status → Type 0
 IsUsage command Usage = command ≡ None
 IsUsage command _ = Unit {0}
 
--- an ending that was decided: its text has its status's form, only Done has output, and no fault is among them
+-- an ending that was decided: its text has its status's form, only Done has output, and no fault
+-- is among them
 pub record IsShaped (command : Option (Task × List ℕ)) (a : Answer) : Type 0 where
   pub text : HasText command a.err a.status
   pub silent : IsSilent a.out a.status

@@ -23,7 +23,8 @@ fn input_of_target(target: &Target) -> Option<&Str>
 // The input that an expression reads, where it is one call of `json-lines`.
 #[tactic(auto, using(query_tree::proofs::Layers::layers))]
 fn input_of_kind(kind: &Kind<Slot, Target, SeqType>) -> Option<&Str>
-    ensures { option_map (λ name. name.now) result ≡ input_of_form (form_of Slot Target SeqType kind.now) }
+    ensures { option_map (λ name. name.now) result
+        ≡ input_of_form (form_of Slot Target SeqType kind.now) }
 {
     match kind {
         Kind::Call { function, .. } => input_of_target(function),

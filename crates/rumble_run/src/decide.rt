@@ -22,7 +22,9 @@ use std::alloc::Global;
 
 // What the items of an input come to, where there is such an input.
 fn of_input(alloc: Global, text: &[u8], place: u32, input: Option<Vec<u8>>) -> Result<Ending, Stop>
-    ensures value { IfOk result (λ e. answer_of e ≡ of_result text.now (input_items place (option_map (λ v. v.items) input))) }
+    ensures value { IfOk result
+        (λ e.
+        answer_of e ≡ of_result text.now (input_items place (option_map (λ v. v.items) input))) }
     ensures memory { IfErr result (λ stop. stop ≡ Stop.NoMemory) }
 {
     let code = match input {
@@ -56,7 +58,10 @@ fn of_run<I: Inputs>(
     inputs: &mut I,
 ) -> Result<Ending, Stop>
     ensures world { I.world inputs.new ≡ I.world inputs.old }
-    ensures value { IfOk result (λ e. IfSome (I.world inputs.old) (λ w. answer_of e ≡ of_tree Task.Run text.now w (plain_of query.now))) }
+    ensures value { IfOk result
+        (λ e.
+        IfSome (I.world inputs.old)
+        (λ w. answer_of e ≡ of_tree Task.Run text.now w (plain_of query.now))) }
     ensures shape { IfOk result (λ e. IsOfStatus e.out.items (string_bytes e.err) e.status) }
     ensures counts { LeavesRun result (I.counts inputs.old) (I.counts inputs.new) }
 {
@@ -82,7 +87,10 @@ fn of_tree<I: Inputs>(
     inputs: &mut I,
 ) -> Result<Ending, Stop>
     ensures world { I.world inputs.new ≡ I.world inputs.old }
-    ensures value { IfOk result (λ e. IfSome (I.world inputs.old) (λ w. answer_of e ≡ of_tree task text.now w (plain_of query.now))) }
+    ensures value { IfOk result
+        (λ e.
+        IfSome (I.world inputs.old)
+        (λ w. answer_of e ≡ of_tree task text.now w (plain_of query.now))) }
     ensures shape { IfOk result (λ e. IsOfStatus e.out.items (string_bytes e.err) e.status) }
     ensures counts { LeavesRun result (I.counts inputs.old) (I.counts inputs.new) }
 {
@@ -103,7 +111,8 @@ fn of_query<I: Inputs>(
     inputs: &mut I,
 ) -> Result<Ending, Stop>
     ensures world { I.world inputs.new ≡ I.world inputs.old }
-    ensures value { IfOk result (λ e. IfSome (I.world inputs.old) (λ w. IsOfQuery task w query.now (answer_of e))) }
+    ensures value { IfOk result
+        (λ e. IfSome (I.world inputs.old) (λ w. IsOfQuery task w query.now (answer_of e))) }
     ensures shape { IfOk result (λ e. IsOfStatus e.out.items (string_bytes e.err) e.status) }
     ensures counts { LeavesRun result (I.counts inputs.old) (I.counts inputs.new) }
 {
@@ -126,7 +135,8 @@ pub(crate) fn decide<I: Inputs>(
     inputs: &mut I,
 ) -> Result<Ending, Stop>
     ensures world { I.world inputs.new ≡ I.world inputs.old }
-    ensures value { IfOk result (λ e. IfSome (I.world inputs.old) (λ w. IsAnswer words.now w (answer_of e))) }
+    ensures value { IfOk result
+        (λ e. IfSome (I.world inputs.old) (λ w. IsAnswer words.now w (answer_of e))) }
     ensures shape { IfOk result (λ e. IsShaped (command_of words.now) (answer_of e)) }
     ensures unread { IsErrOf result Stop.ReadFault → command_of words.now ≢ None }
     ensures usage { command_of words.now ≡ None → IfOk result (λ e. answer_of e ≡ usage) }

@@ -2,7 +2,8 @@ use crate::status::{Status, Stop};
 use item_tree::NoMemory;
 use std::alloc::{AllocError, AllocFailed};
 
-/// What a command line comes to: a status, with the bytes for the output and the text for the errors.
+/// What a command line comes to: a status, with the bytes for the output and the text for the
+/// errors.
 #[derive(Debug, Drop)]
 pub(crate) struct Ending {
     pub status: Status,

@@ -1,5 +1,5 @@
-//! Laws of what a command line comes to. Each holds of all queries: a call brings it to a proof, and
-//! does nothing when it runs.
+//! Laws of what a command line comes to. Each holds of all queries: a call brings it to a proof,
+//! and does nothing when it runs.
 
 ghost use Rattle.std.specs.Prelude.{ℕ, List};
 ghost use Rattle.outside.specs.World.{World};

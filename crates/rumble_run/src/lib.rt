@@ -1,5 +1,5 @@
-//! The program as one call: the words of a command line and the objects that it may touch go in, and
-//! a status comes out.
+//! The program as one call: the words of a command line and the objects that it may touch go in,
+//! and a status comes out.
 #![tactic(auto)]
 
 ghost use Rattle.std.specs.Prelude.{◌≡◌, ◌≢◌, ◌≤◌, ◌<◌, ◌⊎◌, ℕ, List, None};
@@ -40,8 +40,8 @@ use std::thread::Threads;
 /// Does what the words ask, and answers how it ended.
 ///
 /// The words do not include the program's own name. The result is written to `out`, whole or, where
-/// a write fails, a part of it; what there is to tell is written to `err`. The answer is that of the
-/// definition, whatever the sizes of reads and writes.
+/// a write fails, a part of it; what there is to tell is written to `err`. The answer is that of
+/// the definition, whatever the sizes of reads and writes.
 pub fn rumble<R: Threads + Wait + Sync, I: Inputs, O: Sink, E: Sink, G: Gate>(
     _rt: &R,
     alloc: Global,
@@ -63,7 +63,8 @@ pub fn rumble<R: Threads + Wait + Sync, I: Inputs, O: Sink, E: Sink, G: Gate>(
         → OfAnswer (I.world inputs.old) words.now (λ answer. Completes answer result) }
 
     // Over any others, what is written has the status's form.
-    ensures untold_output { (bytes : List ℕ) × OutBy bytes result (O.wrote out.old) (O.wrote out.new) }
+    ensures untold_output { (bytes : List ℕ)
+        × OutBy bytes result (O.wrote out.old) (O.wrote out.new) }
     ensures untold_text { (text : List ℕ) × HasText (command_of words.now) text result
         × Wrote text (E.wrote err.old) (E.wrote err.new) (E.faults err.old) (E.faults err.new) }
 

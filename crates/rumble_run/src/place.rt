@@ -1,7 +1,8 @@
 ghost use Rattle.std.specs.Prelude.{◌≡◌, ◌≤◌, ◌==◌, not, length, count_by, reverse, take_while};
 ghost use Rattle.rumble_run.specs.Place.{begins_character, line_of, column_of};
 
-/// A place in a text, as it is printed: both numbers count from 1, and the column counts characters.
+/// A place in a text, as it is printed: both numbers count from 1, and the column counts
+/// characters.
 #[derive(Clone, Copy, Debug)]
 pub(crate) struct LineColumn {
     pub line: u64,
@@ -36,7 +37,8 @@ fn begins_character(byte: u8) -> bool
 
 // How many characters stand behind the last line feed.
 fn last_characters(text: &[u8]) -> usize
-    ensures { result ≡ count_by begins_character (take_while (λ b. not (b == 10)) (reverse text.now)) }
+    ensures { result
+        ≡ count_by begins_character (take_while (λ b. not (b == 10)) (reverse text.now)) }
 {
     text.iter()
         .rev()

@@ -188,8 +188,8 @@ fn keeps_the_depth(rt: HostRuntime) -> Result<(), Fail> {
     Ok(())
 }
 
-// What a command does with a query, over an input `a` that holds the line 1, and none other. A second
-// open would fail where the query may open nothing else.
+// What a command does with a query, over an input `a` that holds the line 1, and none other. A
+// second open would fail where the query may open nothing else.
 fn asked<R: Threads + Wait + Sync + Abort>(
     rt: &R,
     alloc: Global,
@@ -430,7 +430,8 @@ fn failing(alloc: Global, opens: &[u64], calls: &[(u64, u64)]) -> Result<Fails, 
     })
 }
 
-// Each open that fails, and on each of the two files each call in turn, until a run meets no failure.
+// Each open that fails, and on each of the two files each call in turn, until a run meets no
+// failure.
 #[test]
 fn tells_failed_reads(rt: HostRuntime) -> Result<(), Fail> {
     let alloc = rt.alloc();

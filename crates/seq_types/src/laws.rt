@@ -3,7 +3,8 @@
 
 ghost use Rattle.seq_types.specs.Laws.{TypesAreFound};
 
-/// Each type of items is found by its name, and by no other; parentheses may follow four names alone.
+/// Each type of items is found by its name, and by no other; parentheses may follow four names
+/// alone.
 pub fn types_are_found()
     ensures { TypesAreFound }
 {}

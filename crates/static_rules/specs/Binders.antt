@@ -16,9 +16,12 @@ abbrev mutual
   form_binders (p.comma_form first rest) = binders first ++ operands_binders rest
   form_binders (p.flwor_form clauses place result) = clauses_binders clauses ++ binders result
   form_binders (p.quant_form quantifier binds test) = binds_binders binds ++ binders test
-  form_binders (p.switch_form operand cases default) = binders operand ++ cases_binders cases ++ binders default
-  form_binders (p.typeswitch_form operand cases variable default) = binders operand ++ type_cases_binders cases ++ any_name variable ++ binders default
-  form_binders (p.if_form condition when_true when_false) = binders condition ++ binders when_true ++ binders when_false
+  form_binders (p.switch_form operand cases default) =
+      binders operand ++ cases_binders cases ++ binders default
+  form_binders (p.typeswitch_form operand cases variable default) =
+      binders operand ++ type_cases_binders cases ++ any_name variable ++ binders default
+  form_binders (p.if_form condition when_true when_false) =
+      binders condition ++ binders when_true ++ binders when_false
   form_binders (p.try_form body catches) = binders body ++ catches_binders catches
   form_binders (p.or_form first rest) = binders first ++ operands_binders rest
   form_binders (p.and_form first rest) = binders first ++ operands_binders rest
@@ -132,7 +135,8 @@ abbrev mutual
   lookup_binders (p.computed_lookup value) = binders value
 
   pub clause_binders : {V F T : Type 0} → PlainClause V F T → List V
-  clause_binders (p.for_clause variable t allowing_empty position source) = variable.name ∷ any_name position ++ binders source
+  clause_binders (p.for_clause variable t allowing_empty position source) =
+      variable.name ∷ any_name position ++ binders source
   clause_binders (p.let_clause variable t value) = variable.name ∷ binders value
   clause_binders (p.keep_clause place test) = binders test
   clause_binders (p.group_clause place keys) = group_vars_binders keys

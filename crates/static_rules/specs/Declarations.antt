@@ -17,13 +17,15 @@ use Rattle.static_rules.specs.Walks.{State, view_of, bound_names, sooner, first_
 use Rattle.static_rules.specs.Openings.{entered}
 use Rattle.static_rules.specs.Behind.{stream_of}
 
-abbrev pub named_variable : Variable (List ℕ) (List ℕ) TypeName → PlainVariable (List ℕ) (List ℕ) TypeName
+abbrev pub named_variable : Variable (List ℕ) (List ℕ) TypeName
+    → PlainVariable (List ℕ) (List ℕ) TypeName
 named_variable = variable_of (List ℕ) (List ℕ) TypeName
 
 abbrev pub bound_variable : Variable Slot Target SeqType → PlainVariable Slot Target SeqType
 bound_variable = variable_of Slot Target SeqType
 
-abbrev pub named_function : Function (List ℕ) (List ℕ) TypeName → PlainFunction (List ℕ) (List ℕ) TypeName
+abbrev pub named_function : Function (List ℕ) (List ℕ) TypeName
+    → PlainFunction (List ℕ) (List ℕ) TypeName
 named_function = function_of (List ℕ) (List ℕ) TypeName
 
 abbrev pub bound_function : Function Slot Target SeqType → PlainFunction Slot Target SeqType
@@ -31,23 +33,41 @@ bound_function = function_of Slot Target SeqType
 
 -- what one declaration mentions
 abbrev pub variable_mentions : View → PlainVariable (List ℕ) (List ℕ) TypeName → List MentionAt
-variable_mentions v x = mention_at x.variable.place (declares_variable x.variable.name v.variables) ∷ type_mentions x.type ++ mentions v x.value
+variable_mentions v x =
+    mention_at x.variable.place (declares_variable x.variable.name v.variables)
+    ∷ type_mentions x.type ++ mentions v x.value
 
 abbrev pub param_mentions : List (List ℕ) → Param (List ℕ) TypeName → List MentionAt
-param_mentions earlier q = mention_at q.variable.place (declares_parameter q.variable.name earlier) ∷ type_mentions q.of
+param_mentions earlier q =
+    mention_at q.variable.place (declares_parameter q.variable.name earlier) ∷ type_mentions q.of
 
-abbrev pub function_mentions : View → List Callee → PlainFunction (List ℕ) (List ℕ) TypeName → List MentionAt
-function_mentions v earlier f = mention_at f.function.place (declares_function (callee_of f) earlier) ∷ params_mentions [] f.params ++ type_mentions f.type ++ mentions (seeing v (after_params v.variables f.params)) f.body
+abbrev pub function_mentions : View → List Callee → PlainFunction (List ℕ) (List ℕ) TypeName
+    → List MentionAt
+function_mentions v earlier f =
+    mention_at f.function.place (declares_function (callee_of f) earlier)
+    ∷ params_mentions [] f.params ++ type_mentions f.type
+    ++ mentions (seeing v (after_params v.variables f.params)) f.body
 
 -- the compiled tree of one declaration
-abbrev pub compiled_variable : Names → ℕ → PlainVariable (List ℕ) (List ℕ) TypeName → PlainVariable Slot Target SeqType
-compiled_variable s number x = record { variable = record { place = x.variable.place; name = Global number }; type = option_map placed_type x.type; value = compiled s 0 x.value }
+abbrev pub compiled_variable : Names → ℕ → PlainVariable (List ℕ) (List ℕ) TypeName
+    → PlainVariable Slot Target SeqType
+compiled_variable s number x = record {
+  variable = record { place = x.variable.place; name = Global number };
+  type = option_map placed_type x.type;
+  value = compiled s 0 x.value;
+}
 
 abbrev pub compiled_param : ℕ → Param (List ℕ) TypeName → Param Slot SeqType
 compiled_param n q = record { variable = binding q.variable n; of = option_map placed_type q.of }
 
-abbrev pub compiled_function : Names → ℕ → PlainFunction (List ℕ) (List ℕ) TypeName → PlainFunction Slot Target SeqType
-compiled_function s number f = record { function = record { place = f.function.place; name = Own number }; params = compiled_params 0 f.params; type = option_map placed_type f.type; body = compiled (with_params s 0 f.params) (length f.params) f.body }
+abbrev pub compiled_function : Names → ℕ → PlainFunction (List ℕ) (List ℕ) TypeName
+    → PlainFunction Slot Target SeqType
+compiled_function s number f = record {
+  function = record { place = f.function.place; name = Own number };
+  params = compiled_params 0 f.params;
+  type = option_map placed_type f.type;
+  body = compiled (with_params s 0 f.params) (length f.params) f.body;
+}
 
 -- the state before a query
 unfoldable pub started : State
@@ -68,33 +88,45 @@ with_functions s functions = record s { functions = functions }
 unfoldable pub seeing_functions : State → List Callee → State
 seeing_functions s functions = record s { names = with_functions s.names functions }
 
--- the state behind declarations with these mentions, where so many numbers are taken and these names are in scope
+-- the state behind declarations with these mentions, where so many numbers are taken and these
+-- names are in scope
 unfoldable pub declared : State → List MentionAt → ℕ → Names → State
-declared s ms number names = record { names = names; number = number; first = sooner s.first (first_of ms) }
+declared s ms number names =
+    record { names = names; number = number; first = sooner s.first (first_of ms) }
 
 abbrev pub behind_variable : State → ℕ → PlainVariable (List ℕ) (List ℕ) TypeName → State
-behind_variable s number x = declared s (variable_mentions (view_of false s.names) x) (variable_width x) (with_slot s.names x.variable.name (Global number))
+behind_variable s number x =
+    declared s (variable_mentions (view_of false s.names) x) (variable_width x)
+    (with_slot s.names x.variable.name (Global number))
 
 -- the first of these variables has this number
 abbrev pub behind_variables : State → ℕ → List (PlainVariable (List ℕ) (List ℕ) TypeName) → State
-behind_variables s number xs = declared s (variables_mentions (bound_names s.names.variables) xs) 0 (record s.names { variables = globals_after s.names.variables number xs })
+behind_variables s number xs =
+    declared s (variables_mentions (bound_names s.names.variables) xs) 0
+    (record s.names { variables = globals_after s.names.variables number xs })
 
 -- the states behind the parameters of a function before which so many variables were bound
 abbrev pub behind_param : State → ℕ → Param (List ℕ) TypeName → State
-behind_param s base q = entered s (param_mentions (stream_of base s.names) q) (q.variable.name ∷ []) (with_slot s.names q.variable.name (Local s.number))
+behind_param s base q =
+    entered s (param_mentions (stream_of base s.names) q) (q.variable.name ∷ [])
+    (with_slot s.names q.variable.name (Local s.number))
 
 abbrev pub param_names : List (Param (List ℕ) TypeName) → List (List ℕ)
 param_names qs = map (λ q. q.variable.name) qs
 
 abbrev pub behind_params : State → ℕ → List (Param (List ℕ) TypeName) → State
-behind_params s base qs = entered s (params_mentions (stream_of base s.names) qs) (param_names qs) (with_params s.names s.number qs)
+behind_params s base qs =
+    entered s (params_mentions (stream_of base s.names) qs) (param_names qs)
+    (with_params s.names s.number qs)
 
 -- the function has this number, so those with lower numbers stand before it
 abbrev pub earlier_functions : Names → ℕ → List Callee
 earlier_functions s number = reverse (take number s.functions)
 
 abbrev pub behind_function : State → ℕ → PlainFunction (List ℕ) (List ℕ) TypeName → State
-behind_function s number f = declared s (function_mentions (view_of false s.names) (earlier_functions s.names number) f) (function_width f) s.names
+behind_function s number f =
+    declared s (function_mentions (view_of false s.names) (earlier_functions s.names number) f)
+    (function_width f) s.names
 
 abbrev pub behind_functions : State → List (PlainFunction (List ℕ) (List ℕ) TypeName) → State
 behind_functions s fs =

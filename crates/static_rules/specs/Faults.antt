@@ -8,4 +8,6 @@ use Rattle.static_rules.specs.declared.rules.Refusal.{Refusal}
 -- memory ran out, or all was made and this was broken first
 abbrev pub IsFault : {A E : Type 0} → Result A E → Option Refusal → CompileFault → Type 0
 IsFault {A} made first fault.NoMemory = Unit {0}
-IsFault {A} made first (fault.Refused code place) = (a : A) × (r : Refusal) × (made ≡ Ok a) × (first ≡ Some r) × (code ≡ code_of r.rule) × (place ≡ r.place)
+IsFault {A} made first (fault.Refused code place) =
+    (a : A) × (r : Refusal) × (made ≡ Ok a) × (first ≡ Some r) × (code ≡ code_of r.rule)
+    × (place ≡ r.place)

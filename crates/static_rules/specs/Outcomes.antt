@@ -16,7 +16,8 @@ use Rattle.static_rules.specs.declared.rules.Refusal.{Refusal}
 abbrev pub named_query : Module (List ℕ) (List ℕ) TypeName → NamedQuery
 named_query = module_of (List ℕ) (List ℕ) TypeName
 
--- the query breaks no rule, and this is its compiled tree, with frames as wide as its declarations and its body need
+-- the query breaks no rule, and this is its compiled tree, with frames as wide as its
+-- declarations and its body need
 pub record CompilesTo (q : NamedQuery) (c : CompiledTree) : Type 0 where
   pub accepted : refusal q ≡ None
   pub tree : bound_trees c.tree ≡ compiled_query q
@@ -25,4 +26,5 @@ pub record CompilesTo (q : NamedQuery) (c : CompiledTree) : Type 0 where
 -- the query is refused so, or memory ran out
 abbrev pub IsCompileFault : NamedQuery → CompileFault → Type 0
 IsCompileFault q fault.NoMemory = Unit {0}
-IsCompileFault q (fault.Refused code place) = (r : Refusal) × (refusal q ≡ Some r) × (code ≡ code_of r.rule) × (place ≡ r.place)
+IsCompileFault q (fault.Refused code place) =
+    (r : Refusal) × (refusal q ≡ Some r) × (code ≡ code_of r.rule) × (place ≡ r.place)

@@ -47,7 +47,10 @@ is_unbound_variable _ = false
 
 -- a call of a function that does not exist, or not with so many arguments
 abbrev pub is_unknown_function : Mention → Bool
-is_unknown_function (calls name arguments functions) = not (is_lines name || is_built_in name (argument_count arguments) || has_callee functions name (argument_count arguments))
+is_unknown_function (calls name arguments functions) =
+    not
+    (is_lines name || is_built_in name (argument_count arguments)
+    || has_callee functions name (argument_count arguments))
 is_unknown_function _ = false
 
 -- a type of sequences that does not exist
@@ -55,15 +58,17 @@ abbrev pub is_unknown_type : Mention → Bool
 is_unknown_type (has_type t) = not (is_empty_sequence t || is_some (type_named t.name t.parens))
 is_unknown_type _ = false
 
--- a type that a cast cannot have: it has at most one string, integer, decimal, boolean, null, date or
--- date-time
+-- a type that a cast cannot have: it has at most one string, integer, decimal, boolean, null,
+-- date or date-time
 abbrev pub is_unknown_cast_type : Mention → Bool
-is_unknown_cast_type (casts_to t) = not (is_atomic_type (type_named t.name t.parens) && is_at_most_one t.times)
+is_unknown_cast_type (casts_to t) =
+    not (is_atomic_type (type_named t.name t.parens) && is_at_most_one t.times)
 is_unknown_cast_type _ = false
 
 -- a function that is declared twice, or is one of the language
 abbrev pub is_function_twice : Mention → Bool
-is_function_twice (declares_function f earlier) = is_lines f.name || is_built_in f.name f.arity || has_callee earlier f.name f.arity
+is_function_twice (declares_function f earlier) =
+    is_lines f.name || is_built_in f.name f.arity || has_callee earlier f.name f.arity
 is_function_twice _ = false
 
 -- a parameter that equals an earlier one
@@ -98,7 +103,10 @@ is_unnamed_input _ = false
 
 -- all of them, in the order in which they are told at one place
 abbrev pub rules : List Rule
-rules = UnboundVariable ∷ UnknownFunction ∷ UnknownType ∷ UnknownCastType ∷ FunctionTwice ∷ ParameterTwice ∷ VariableTwice ∷ PositionTwice ∷ NoStreamVariable ∷ NoContextItem ∷ UnnamedInput ∷ []
+rules =
+    UnboundVariable ∷ UnknownFunction ∷ UnknownType ∷ UnknownCastType ∷ FunctionTwice
+    ∷ ParameterTwice ∷ VariableTwice ∷ PositionTwice ∷ NoStreamVariable ∷ NoContextItem
+    ∷ UnnamedInput ∷ []
 
 abbrev pub rank : Rule → ℕ
 rank UnboundVariable = 1

@@ -55,7 +55,8 @@ abbrev pub and_any : List (List ℕ) → Option (Placed (List ℕ)) → List (Li
 and_any names None = names
 and_any names (Some x) = x.name ∷ names
 
--- the names that are bound behind a binding of a quantified expression, where these are bound before it
+-- the names that are bound behind a binding of a quantified expression, where these are bound
+-- before it
 abbrev pub after_bind : List (List ℕ) → PlainBind (List ℕ) (List ℕ) TypeName → List (List ℕ)
 after_bind names (p.bind_node variable t source) = variable.name ∷ names
 
@@ -74,7 +75,8 @@ after_keys names (p.more_group_vars k ks) = after_keys (after_key names k) ks
 
 -- the same behind a clause of a FLWOR
 abbrev pub after_clause : List (List ℕ) → PlainClause (List ℕ) (List ℕ) TypeName → List (List ℕ)
-after_clause names (p.for_clause variable t allowing_empty position source) = and_any (variable.name ∷ names) position
+after_clause names (p.for_clause variable t allowing_empty position source) =
+    and_any (variable.name ∷ names) position
 after_clause names (p.let_clause variable t value) = variable.name ∷ names
 after_clause names (p.keep_clause place test) = names
 after_clause names (p.group_clause place keys) = after_keys names keys

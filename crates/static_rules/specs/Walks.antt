@@ -22,7 +22,8 @@ bound_names bs = map (λ b. b.0) bs
 
 -- what the rules see of the names, and whether `$$` stands for an item
 abbrev pub view_of : Bool → Names → View
-view_of item s = record { variables = bound_names s.variables; functions = s.functions; item = item }
+view_of item s =
+    record { variables = bound_names s.variables; functions = s.functions; item = item }
 
 abbrev pub sooner : Option Refusal → Option Refusal → Option Refusal
 sooner None b = b
@@ -33,11 +34,16 @@ first_of ms = earliest (flat_map refusals_at ms)
 
 -- the state behind a part with these mentions and these bindings, whose names are out of scope
 unfoldable pub passed : State → List MentionAt → List (List ℕ) → State
-passed s ms bound = record { names = s.names; number = past s.number bound; first = sooner s.first (first_of ms) }
+passed s ms bound =
+    record { names = s.names; number = past s.number bound; first = sooner s.first (first_of ms) }
 
 -- the state once the rule was tested at this place
 abbrev pub tested : State → Bool → Rule → ℕ → State
-tested s broken rule place = record s { first = sooner s.first (if broken then Some (record { place = place; rule = rule }) else None) }
+tested s broken rule place =
+    record s {
+      first =
+          sooner s.first (if broken then Some (record { place = place; rule = rule }) else None);
+    }
 
 abbrev pub slot_found : List (List ℕ × Slot) → List ℕ → Option Slot
 slot_found [] name = None

@@ -22,7 +22,9 @@ pub fn is_lines(name: &Str) -> bool
 /// The declared function of this name that takes so many arguments.
 #[tactic(auto, using(std::proofs::lemmas::Grind::common_steps))]
 pub fn own_position(functions: &[Known], name: &Str, arity: usize) -> Option<usize>
-    ensures { result ≡ position (λ f. bytes_eq (callee_of f).name name.now && (callee_of f).arity == arity) functions.now }
+    ensures { result
+        ≡ position (λ f. bytes_eq (callee_of f).name name.now && (callee_of f).arity == arity)
+        functions.now }
 {
     functions
         .iter()

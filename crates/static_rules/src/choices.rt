@@ -29,8 +29,17 @@ pub fn choice<'q>(
     when_true: &'q NamedExpr,
     when_false: &'q NamedExpr,
 ) -> Result<BoundKind, NoMemory>
-    ensures tree { IfOk result (λ t. bound_form t ≡ compiled_form walk.old.names walk.old.number (if_form (named_tree condition.now) (named_tree when_true.now) (named_tree when_false.now))) }
-    ensures walk { OnOk result (walk.new ≡ behind_form walk.old item 0 (if_form (named_tree condition.now) (named_tree when_true.now) (named_tree when_false.now))) }
+    ensures tree { IfOk result
+        (λ t.
+        bound_form t
+        ≡ compiled_form walk.old.names walk.old.number
+        (if_form (named_tree condition.now) (named_tree when_true.now)
+        (named_tree when_false.now))) }
+    ensures walk { OnOk result
+        (walk.new
+        ≡ behind_form walk.old item 0
+        (if_form (named_tree condition.now) (named_tree when_true.now)
+        (named_tree when_false.now))) }
 {
     let condition = boxed(alloc, expr(alloc, walk, item, condition));
     let when_true = boxed(alloc, expr(alloc, walk, item, when_true));
@@ -53,8 +62,15 @@ pub fn switch<'q>(
     operand: &'q NamedExpr,
     default: &'q NamedExpr,
 ) -> Result<BoundKind, NoMemory>
-    ensures tree { IfOk result (λ t. bound_form t ≡ compiled_form walk.old.names walk.old.number (switch_form (named_tree operand.now) (named_cases inner.now) (named_tree default.now))) }
-    ensures walk { OnOk result (walk.new ≡ behind_form walk.old item 0 (switch_form (named_tree operand.now) (named_cases inner.now) (named_tree default.now))) }
+    ensures tree { IfOk result
+        (λ t.
+        bound_form t
+        ≡ compiled_form walk.old.names walk.old.number
+        (switch_form (named_tree operand.now) (named_cases inner.now) (named_tree default.now))) }
+    ensures walk { OnOk result
+        (walk.new
+        ≡ behind_form walk.old item 0
+        (switch_form (named_tree operand.now) (named_cases inner.now) (named_tree default.now))) }
 {
     let operand = boxed(alloc, expr(alloc, walk, item, operand));
     let cases = cases(alloc, walk, item, inner);
@@ -74,7 +90,10 @@ fn cases<'q>(
     item: bool,
     parts: &'q [Case<NamedExpr>],
 ) -> Result<Vec<Case<BoundExpr>>, NoMemory>
-    ensures tree { IfOk result (λ t. bound_cases t.items ≡ compiled_cases walk.old.names walk.old.number (named_cases parts.now)) }
+    ensures tree { IfOk result
+        (λ t.
+        bound_cases t.items
+        ≡ compiled_cases walk.old.names walk.old.number (named_cases parts.now)) }
     ensures walk { OnOk result (walk.new ≡ behind_cases walk.old item (named_cases parts.now)) }
 {
     let mut out = Vec::new(alloc);
@@ -92,7 +111,8 @@ fn case<'q>(
     item: bool,
     part: &'q Case<NamedExpr>,
 ) -> Result<Case<BoundExpr>, NoMemory>
-    ensures tree { IfOk result (λ t. bound_case t ≡ compiled_case walk.old.names walk.old.number (named_case part.now)) }
+    ensures tree { IfOk result
+        (λ t. bound_case t ≡ compiled_case walk.old.names walk.old.number (named_case part.now)) }
     ensures walk { OnOk result (walk.new ≡ behind_case walk.old item (named_case part.now)) }
 {
     let tests = trees(alloc, walk, item, &part.tests);
@@ -112,8 +132,17 @@ pub fn typeswitch<'q>(
     variable: &'q Option<Placed<Str>>,
     default: &'q NamedExpr,
 ) -> Result<BoundKind, NoMemory>
-    ensures tree { IfOk result (λ t. bound_form t ≡ compiled_form walk.old.names walk.old.number (typeswitch_form (named_tree operand.now) (named_type_cases inner.now) variable.now (named_tree default.now))) }
-    ensures walk { OnOk result (walk.new ≡ behind_form walk.old item 0 (typeswitch_form (named_tree operand.now) (named_type_cases inner.now) variable.now (named_tree default.now))) }
+    ensures tree { IfOk result
+        (λ t.
+        bound_form t
+        ≡ compiled_form walk.old.names walk.old.number
+        (typeswitch_form (named_tree operand.now) (named_type_cases inner.now) variable.now
+        (named_tree default.now))) }
+    ensures walk { OnOk result
+        (walk.new
+        ≡ behind_form walk.old item 0
+        (typeswitch_form (named_tree operand.now) (named_type_cases inner.now) variable.now
+        (named_tree default.now))) }
 {
     let operand = boxed(alloc, expr(alloc, walk, item, operand));
     let cases = type_cases(alloc, walk, item, inner);
@@ -136,8 +165,20 @@ fn otherwise<'q>(
     variable: &'q Option<Placed<Str>>,
     default: &'q NamedExpr,
 ) -> Result<(Option<Placed<Slot>>, Box<BoundExpr>), NoMemory>
-    ensures tree { IfOk result (λ t. (t.0 ≡ any_binding variable.now walk.old.number) × (bound_tree t.1.value ≡ compiled (with_any walk.old.names variable.now walk.old.number) (past walk.old.number (any_name variable.now)) (named_tree default.now))) }
-    ensures walk { OnOk result (walk.new ≡ passed walk.old (mentions (seeing (view_of item walk.old.names) (and_any (bound_names walk.old.names.variables) variable.now)) (named_tree default.now)) (any_name variable.now ++ binders (named_tree default.now))) }
+    ensures tree { IfOk result
+        (λ t.
+        (t.0 ≡ any_binding variable.now walk.old.number)
+        ×
+        (bound_tree t.1.value
+        ≡ compiled (with_any walk.old.names variable.now walk.old.number)
+        (past walk.old.number (any_name variable.now)) (named_tree default.now))) }
+    ensures walk { OnOk result
+        (walk.new
+        ≡ passed walk.old
+        (mentions
+        (seeing (view_of item walk.old.names)
+        (and_any (bound_names walk.old.names.variables) variable.now)) (named_tree default.now))
+        (any_name variable.now ++ binders (named_tree default.now))) }
 {
     let depth = walk.depth();
     let variable = walk.open_any(variable);
@@ -153,8 +194,12 @@ fn type_cases<'q>(
     item: bool,
     parts: &'q [TypeCase<Str, TypeName, NamedExpr>],
 ) -> Result<Vec<TypeCase<Slot, SeqType, BoundExpr>>, NoMemory>
-    ensures tree { IfOk result (λ t. bound_type_cases t.items ≡ compiled_type_cases walk.old.names walk.old.number (named_type_cases parts.now)) }
-    ensures walk { OnOk result (walk.new ≡ behind_type_cases walk.old item (named_type_cases parts.now)) }
+    ensures tree { IfOk result
+        (λ t.
+        bound_type_cases t.items
+        ≡ compiled_type_cases walk.old.names walk.old.number (named_type_cases parts.now)) }
+    ensures walk { OnOk result
+        (walk.new ≡ behind_type_cases walk.old item (named_type_cases parts.now)) }
 {
     let mut out = Vec::new(alloc);
     for part in parts {
@@ -171,8 +216,12 @@ fn type_case<'q>(
     item: bool,
     part: &'q TypeCase<Str, TypeName, NamedExpr>,
 ) -> Result<TypeCase<Slot, SeqType, BoundExpr>, NoMemory>
-    ensures tree { IfOk result (λ t. bound_type_case t ≡ compiled_type_case walk.old.names walk.old.number (named_type_case part.now)) }
-    ensures walk { OnOk result (walk.new ≡ behind_type_case walk.old item (named_type_case part.now)) }
+    ensures tree { IfOk result
+        (λ t.
+        bound_type_case t
+        ≡ compiled_type_case walk.old.names walk.old.number (named_type_case part.now)) }
+    ensures walk { OnOk result
+        (walk.new ≡ behind_type_case walk.old item (named_type_case part.now)) }
 {
     let types = seq_types(alloc, walk, &part.types)?;
     let (variable, result) = arm(alloc, walk, item, &part.variable, &part.result)?;
@@ -192,8 +241,20 @@ fn arm<'q>(
     variable: &'q Option<Placed<Str>>,
     value: &'q NamedExpr,
 ) -> Result<(Option<Placed<Slot>>, BoundExpr), NoMemory>
-    ensures tree { IfOk result (λ t. (t.0 ≡ any_binding variable.now walk.old.number) × (bound_tree t.1 ≡ compiled (with_any walk.old.names variable.now walk.old.number) (past walk.old.number (any_name variable.now)) (named_tree value.now))) }
-    ensures walk { OnOk result (walk.new ≡ passed walk.old (mentions (seeing (view_of item walk.old.names) (and_any (bound_names walk.old.names.variables) variable.now)) (named_tree value.now)) (any_name variable.now ++ binders (named_tree value.now))) }
+    ensures tree { IfOk result
+        (λ t.
+        (t.0 ≡ any_binding variable.now walk.old.number)
+        ×
+        (bound_tree t.1
+        ≡ compiled (with_any walk.old.names variable.now walk.old.number)
+        (past walk.old.number (any_name variable.now)) (named_tree value.now))) }
+    ensures walk { OnOk result
+        (walk.new
+        ≡ passed walk.old
+        (mentions
+        (seeing (view_of item walk.old.names)
+        (and_any (bound_names walk.old.names.variables) variable.now)) (named_tree value.now))
+        (any_name variable.now ++ binders (named_tree value.now))) }
 {
     let depth = walk.depth();
     let variable = walk.open_any(variable);
@@ -211,8 +272,14 @@ pub fn tried<'q>(
     inner: &'q [Catch<Str, NamedExpr>],
     body: &'q NamedExpr,
 ) -> Result<BoundKind, NoMemory>
-    ensures tree { IfOk result (λ t. bound_form t ≡ compiled_form walk.old.names walk.old.number (try_form (named_tree body.now) (named_catches inner.now))) }
-    ensures walk { OnOk result (walk.new ≡ behind_form walk.old item 0 (try_form (named_tree body.now) (named_catches inner.now))) }
+    ensures tree { IfOk result
+        (λ t.
+        bound_form t
+        ≡ compiled_form walk.old.names walk.old.number
+        (try_form (named_tree body.now) (named_catches inner.now))) }
+    ensures walk { OnOk result
+        (walk.new
+        ≡ behind_form walk.old item 0 (try_form (named_tree body.now) (named_catches inner.now))) }
 {
     let body = boxed(alloc, expr(alloc, walk, item, body));
     let catches = catches(alloc, walk, item, inner);
@@ -227,7 +294,10 @@ fn catches<'q>(
     item: bool,
     parts: &'q [Catch<Str, NamedExpr>],
 ) -> Result<Vec<Catch<Slot, BoundExpr>>, NoMemory>
-    ensures tree { IfOk result (λ t. bound_catches t.items ≡ compiled_catches walk.old.names walk.old.number (named_catches parts.now)) }
+    ensures tree { IfOk result
+        (λ t.
+        bound_catches t.items
+        ≡ compiled_catches walk.old.names walk.old.number (named_catches parts.now)) }
     ensures walk { OnOk result (walk.new ≡ behind_catches walk.old item (named_catches parts.now)) }
 {
     let mut out = Vec::new(alloc);
@@ -245,7 +315,9 @@ fn catch<'q>(
     item: bool,
     part: &'q Catch<Str, NamedExpr>,
 ) -> Result<Catch<Slot, BoundExpr>, NoMemory>
-    ensures tree { IfOk result (λ t. bound_catch t ≡ compiled_catch walk.old.names walk.old.number (named_catch part.now)) }
+    ensures tree { IfOk result
+        (λ t.
+        bound_catch t ≡ compiled_catch walk.old.names walk.old.number (named_catch part.now)) }
     ensures walk { OnOk result (walk.new ≡ behind_catch walk.old item (named_catch part.now)) }
 {
     let depth = walk.depth();

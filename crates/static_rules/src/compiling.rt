@@ -19,8 +19,8 @@ use std::alloc::Global;
 /// Why a query is not compiled.
 #[derive(Debug, Drop)]
 pub enum CompileFault {
-    /// A rule is broken at this byte, and none before it. The code is that of the rule; of those that
-    /// are broken there it is the first.
+    /// A rule is broken at this byte, and none before it. The code is that of the rule; of those
+    /// that are broken there it is the first.
     Refused { code: Code, place: u32 },
     /// Memory ran out, or there are more declarations, or more bindings in one, than a number of 32
     /// bits tells.

@@ -34,9 +34,14 @@ pub fn variables<'q>(
     parts: &'q [NamedVariable],
 ) -> Result<(Vec<BoundVariable>, usize), NoMemory>
     requires { walk.old.names.functions ≡ [] }
-    ensures tree { IfOk result (λ r. map bound_variable r.0.items ≡ compiled_variables walk.old.names.variables 0 (map named_variable parts.now)) }
-    ensures width { IfOk result (λ r. r.1 ≡ greatest (map variable_width (map named_variable parts.now))) }
-    ensures walk { OnOk result (walk.new ≡ behind_variables walk.old 0 (map named_variable parts.now)) }
+    ensures tree { IfOk result
+        (λ r.
+        map bound_variable r.0.items
+        ≡ compiled_variables walk.old.names.variables 0 (map named_variable parts.now)) }
+    ensures width { IfOk result
+        (λ r. r.1 ≡ greatest (map variable_width (map named_variable parts.now))) }
+    ensures walk { OnOk result
+        (walk.new ≡ behind_variables walk.old 0 (map named_variable parts.now)) }
 {
     let mut width = 0usize;
     let mut out = Vec::new(alloc);
@@ -55,8 +60,11 @@ fn variable<'q>(
     number: usize,
     part: &'q NamedVariable,
 ) -> Result<BoundVariable, NoMemory>
-    ensures tree { IfOk result (λ x. bound_variable x ≡ compiled_variable walk.old.names number (named_variable part.now)) }
-    ensures walk { OnOk result (walk.new ≡ behind_variable walk.old number (named_variable part.now)) }
+    ensures tree { IfOk result
+        (λ x.
+        bound_variable x ≡ compiled_variable walk.old.names number (named_variable part.now)) }
+    ensures walk { OnOk result
+        (walk.new ≡ behind_variable walk.old number (named_variable part.now)) }
 {
     let place = part.variable.place;
     walk.begin();
@@ -73,16 +81,23 @@ fn variable<'q>(
     })
 }
 
-/// The compiled trees of the declared functions, and how many bindings one has at most. From here on
-/// these functions are seen.
+/// The compiled trees of the declared functions, and how many bindings one has at most. From here
+/// on these functions are seen.
 pub fn functions<'q>(
     alloc: Global,
     walk: &mut Walk<'q>,
     parts: &'q [NamedFunction],
 ) -> Result<(Vec<BoundFunction>, usize), NoMemory>
-    ensures tree { IfOk result (λ r. map bound_function r.0.items ≡ compiled_functions (with_functions walk.old.names (map m.callee_of (map named_function parts.now))) 0 (map named_function parts.now)) }
-    ensures width { IfOk result (λ r. r.1 ≡ greatest (map function_width (map named_function parts.now))) }
-    ensures walk { OnOk result (walk.new ≡ behind_functions walk.old (map named_function parts.now)) }
+    ensures tree { IfOk result
+        (λ r.
+        map bound_function r.0.items
+        ≡ compiled_functions
+        (with_functions walk.old.names (map m.callee_of (map named_function parts.now))) 0
+        (map named_function parts.now)) }
+    ensures width { IfOk result
+        (λ r. r.1 ≡ greatest (map function_width (map named_function parts.now))) }
+    ensures walk { OnOk result
+        (walk.new ≡ behind_functions walk.old (map named_function parts.now)) }
 {
     walk.see(known(alloc, parts)?);
     let mut width = 0usize;
@@ -97,7 +112,8 @@ pub fn functions<'q>(
 
 // The declared functions, as they are called.
 fn known<'q>(alloc: Global, parts: &'q [NamedFunction]) -> Result<Vec<Known<'q>>, NoMemory>
-    ensures { IfOk result (λ ks. map callee_of ks.items ≡ map m.callee_of (map named_function parts.now)) }
+    ensures { IfOk result
+        (λ ks. map callee_of ks.items ≡ map m.callee_of (map named_function parts.now)) }
 {
     let mut out = Vec::new(alloc);
     for part in parts {
@@ -117,8 +133,11 @@ fn function<'q>(
     part: &'q NamedFunction,
 ) -> Result<BoundFunction, NoMemory>
     requires { number ≤ length walk.old.names.functions }
-    ensures tree { IfOk result (λ f. bound_function f ≡ compiled_function walk.old.names number (named_function part.now)) }
-    ensures walk { OnOk result (walk.new ≡ behind_function walk.old number (named_function part.now)) }
+    ensures tree { IfOk result
+        (λ f.
+        bound_function f ≡ compiled_function walk.old.names number (named_function part.now)) }
+    ensures walk { OnOk result
+        (walk.new ≡ behind_function walk.old number (named_function part.now)) }
 {
     let place = part.function.place;
     let Ok(own) = u32::try_from(number) else {
@@ -146,7 +165,10 @@ fn function<'q>(
 // Whether a function with this number may not have this name and take so many arguments.
 fn is_taken(walk: &Walk, number: usize, name: &Str, arity: usize) -> bool
     requires { number ≤ length walk.now.names.functions }
-    ensures { result ≡ (is_lines name.now || is_built_in name.now arity || has_callee (earlier_functions walk.now.names number) name.now arity) }
+    ensures { result
+        ≡
+        (is_lines name.now || is_built_in name.now arity
+        || has_callee (earlier_functions walk.now.names number) name.now arity) }
 {
     let built = FnId::find(name.as_str(), arity).is_some();
     is_lines(name) || built || walk.is_declared(number, name, arity)

@@ -28,7 +28,8 @@ pub fn expr<'q>(
     item: bool,
     e: &'q NamedExpr,
 ) -> Result<BoundExpr, NoMemory>
-    ensures tree { IfOk result (λ t. bound_tree t ≡ compiled walk.old.names walk.old.number (named_tree e.now)) }
+    ensures tree { IfOk result
+        (λ t. bound_tree t ≡ compiled walk.old.names walk.old.number (named_tree e.now)) }
     ensures walk { OnOk result (walk.new ≡ behind_tree walk.old item (named_tree e.now)) }
 {
     let kind = kind(alloc, walk, item, e.place, &e.kind)?;
@@ -48,7 +49,8 @@ fn kind<'q>(
     place: u32,
     kind: &'q NamedKind,
 ) -> Result<BoundKind, NoMemory>
-    ensures tree { IfOk result (λ t. bound_form t ≡ compiled_form walk.old.names walk.old.number (named_form kind.now)) }
+    ensures tree { IfOk result
+        (λ t. bound_form t ≡ compiled_form walk.old.names walk.old.number (named_form kind.now)) }
     ensures walk { OnOk result (walk.new ≡ behind_form walk.old item place (named_form kind.now)) }
 {
     match kind {

@@ -36,8 +36,15 @@ pub fn flwor<'q>(
     place: u32,
     returned: &'q NamedExpr,
 ) -> Result<BoundKind, NoMemory>
-    ensures tree { IfOk result (λ t. bound_form t ≡ compiled_form walk.old.names walk.old.number (flwor_form (named_clauses inner.now) place (named_tree returned.now))) }
-    ensures walk { OnOk result (walk.new ≡ behind_form walk.old item 0 (flwor_form (named_clauses inner.now) place (named_tree returned.now))) }
+    ensures tree { IfOk result
+        (λ t.
+        bound_form t
+        ≡ compiled_form walk.old.names walk.old.number
+        (flwor_form (named_clauses inner.now) place (named_tree returned.now))) }
+    ensures walk { OnOk result
+        (walk.new
+        ≡ behind_form walk.old item 0
+        (flwor_form (named_clauses inner.now) place (named_tree returned.now))) }
 {
     let depth = walk.depth();
     let clauses = clauses(alloc, walk, item, inner);
@@ -59,8 +66,14 @@ fn clauses<'q>(
     item: bool,
     parts: &'q [NamedClause],
 ) -> Result<Vec<BoundClause>, NoMemory>
-    ensures tree { IfOk result (λ t. bound_clauses t.items ≡ compiled_clauses walk.old.names walk.old.number (named_clauses parts.now)) }
-    ensures walk { OnOk result (walk.new ≡ behind_clauses walk.old item (length walk.old.names.variables) (named_clauses parts.now)) }
+    ensures tree { IfOk result
+        (λ t.
+        bound_clauses t.items
+        ≡ compiled_clauses walk.old.names walk.old.number (named_clauses parts.now)) }
+    ensures walk { OnOk result
+        (walk.new
+        ≡ behind_clauses walk.old item (length walk.old.names.variables)
+        (named_clauses parts.now)) }
 {
     let base = walk.depth();
     clauses_from(alloc, walk, item, base, parts)
@@ -75,8 +88,13 @@ fn clauses_from<'q>(
     base: usize,
     parts: &'q [NamedClause],
 ) -> Result<Vec<BoundClause>, NoMemory>
-    ensures tree { base ≤ length walk.old.names.variables → IfOk result (λ t. bound_clauses t.items ≡ compiled_clauses walk.old.names walk.old.number (named_clauses parts.now)) }
-    ensures walk { base ≤ length walk.old.names.variables → OnOk result (walk.new ≡ behind_clauses walk.old item base (named_clauses parts.now)) }
+    ensures tree { base ≤ length walk.old.names.variables
+        → IfOk result
+        (λ t.
+        bound_clauses t.items
+        ≡ compiled_clauses walk.old.names walk.old.number (named_clauses parts.now)) }
+    ensures walk { base ≤ length walk.old.names.variables
+        → OnOk result (walk.new ≡ behind_clauses walk.old item base (named_clauses parts.now)) }
 {
     let mut out = Vec::new(alloc);
     for part in parts {
@@ -94,8 +112,11 @@ fn clause<'q>(
     base: usize,
     part: &'q NamedClause,
 ) -> Result<BoundClause, NoMemory>
-    ensures tree { IfOk result (λ t. bound_clause t ≡ compiled_clause walk.old.names walk.old.number (named_clause part.now)) }
-    ensures walk { OnOk result (walk.new ≡ behind_clause walk.old item base (named_clause part.now)) }
+    ensures tree { IfOk result
+        (λ t.
+        bound_clause t ≡ compiled_clause walk.old.names walk.old.number (named_clause part.now)) }
+    ensures walk { OnOk result
+        (walk.new ≡ behind_clause walk.old item base (named_clause part.now)) }
 {
     match part {
         Clause::For {
@@ -133,8 +154,15 @@ fn for_each<'q>(
     position: &'q Option<Placed<Str>>,
     source: &'q NamedExpr,
 ) -> Result<BoundClause, NoMemory>
-    ensures tree { IfOk result (λ t. bound_clause t ≡ compiled_clause walk.old.names walk.old.number (for_clause variable.now of.now allowing_empty position.now (named_tree source.now))) }
-    ensures walk { OnOk result (walk.new ≡ behind_clause walk.old item 0 (for_clause variable.now of.now allowing_empty position.now (named_tree source.now))) }
+    ensures tree { IfOk result
+        (λ t.
+        bound_clause t
+        ≡ compiled_clause walk.old.names walk.old.number
+        (for_clause variable.now of.now allowing_empty position.now (named_tree source.now))) }
+    ensures walk { OnOk result
+        (walk.new
+        ≡ behind_clause walk.old item 0
+        (for_clause variable.now of.now allowing_empty position.now (named_tree source.now))) }
 {
     let number = walk.count()?;
     let next = walk.number();
@@ -164,8 +192,14 @@ fn let_be<'q>(
     of: &Option<Placed<TypeName>>,
     value: &'q NamedExpr,
 ) -> Result<BoundClause, NoMemory>
-    ensures tree { IfOk result (λ t. bound_clause t ≡ compiled_clause walk.old.names walk.old.number (let_clause variable.now of.now (named_tree value.now))) }
-    ensures walk { OnOk result (walk.new ≡ behind_clause walk.old item 0 (let_clause variable.now of.now (named_tree value.now))) }
+    ensures tree { IfOk result
+        (λ t.
+        bound_clause t
+        ≡ compiled_clause walk.old.names walk.old.number
+        (let_clause variable.now of.now (named_tree value.now))) }
+    ensures walk { OnOk result
+        (walk.new
+        ≡ behind_clause walk.old item 0 (let_clause variable.now of.now (named_tree value.now))) }
 {
     let (variable, of, value) = bound(alloc, walk, item, variable, of, value)?;
     Ok(Clause::Let {
@@ -188,8 +222,15 @@ pub fn bound<'q>(
 ) -> Result<(Placed<Slot>, Option<Placed<SeqType>>, BoundExpr), NoMemory>
     ensures variable { IfOk result (λ t. t.0 ≡ binding variable.now walk.old.number) }
     ensures of { IfOk result (λ t. t.1 ≡ option_map placed_type of.now) }
-    ensures value { IfOk result (λ t. bound_tree t.2 ≡ compiled walk.old.names (walk.old.number + 1) (named_tree value.now)) }
-    ensures walk { OnOk result (walk.new ≡ entered walk.old (type_mentions of.now ++ mentions (view_of item walk.old.names) (named_tree value.now)) (variable.now.name ∷ binders (named_tree value.now)) (with_slot walk.old.names variable.now.name (Local walk.old.number))) }
+    ensures value { IfOk result
+        (λ t.
+        bound_tree t.2 ≡ compiled walk.old.names (walk.old.number + 1) (named_tree value.now)) }
+    ensures walk { OnOk result
+        (walk.new
+        ≡ entered walk.old
+        (type_mentions of.now ++ mentions (view_of item walk.old.names) (named_tree value.now))
+        (variable.now.name ∷ binders (named_tree value.now))
+        (with_slot walk.old.names variable.now.name (Local walk.old.number))) }
 {
     let number = walk.count()?;
     let of = any_type(walk, of)?;
@@ -207,8 +248,13 @@ fn keep<'q>(
     place: u32,
     test: &'q NamedExpr,
 ) -> Result<BoundClause, NoMemory>
-    ensures tree { IfOk result (λ t. bound_clause t ≡ compiled_clause walk.old.names walk.old.number (keep_clause place (named_tree test.now))) }
-    ensures walk { OnOk result (walk.new ≡ behind_clause walk.old item 0 (keep_clause place (named_tree test.now))) }
+    ensures tree { IfOk result
+        (λ t.
+        bound_clause t
+        ≡ compiled_clause walk.old.names walk.old.number
+        (keep_clause place (named_tree test.now))) }
+    ensures walk { OnOk result
+        (walk.new ≡ behind_clause walk.old item 0 (keep_clause place (named_tree test.now))) }
 {
     let test = expr(alloc, walk, item, test)?;
     Ok(Clause::Keep { place, test })
@@ -224,8 +270,15 @@ fn group<'q>(
     place: u32,
     inner: &'q Vec<GroupVar<Str, NamedExpr>>,
 ) -> Result<BoundClause, NoMemory>
-    ensures tree { IfOk result (λ t. bound_clause t ≡ compiled_clause walk.old.names walk.old.number (group_clause place (named_group_vars inner.now.items))) }
-    ensures walk { OnOk result (walk.new ≡ behind_clause walk.old item base (group_clause place (named_group_vars inner.now.items))) }
+    ensures tree { IfOk result
+        (λ t.
+        bound_clause t
+        ≡ compiled_clause walk.old.names walk.old.number
+        (group_clause place (named_group_vars inner.now.items))) }
+    ensures walk { OnOk result
+        (walk.new
+        ≡ behind_clause walk.old item base
+        (group_clause place (named_group_vars inner.now.items))) }
 {
     let keys = keys(alloc, walk, item, base, inner)?;
     Ok(Clause::Group { place, keys })
@@ -240,8 +293,14 @@ fn keys<'q>(
     base: usize,
     parts: &'q [GroupVar<Str, NamedExpr>],
 ) -> Result<Vec<GroupVar<Slot, BoundExpr>>, NoMemory>
-    ensures tree { IfOk result (λ t. bound_group_vars t.items ≡ compiled_group_vars walk.old.names walk.old.names walk.old.number (named_group_vars parts.now)) }
-    ensures walk { OnOk result (walk.new ≡ behind_clause walk.old item base (group_clause 0 (named_group_vars parts.now))) }
+    ensures tree { IfOk result
+        (λ t.
+        bound_group_vars t.items
+        ≡ compiled_group_vars walk.old.names walk.old.names walk.old.number
+        (named_group_vars parts.now)) }
+    ensures walk { OnOk result
+        (walk.new
+        ≡ behind_clause walk.old item base (group_clause 0 (named_group_vars parts.now))) }
 {
     let mark = walk.depth();
     keys_from(alloc, walk, item, base, mark, parts)
@@ -258,8 +317,15 @@ fn keys_from<'q>(
     mark: usize,
     parts: &'q [GroupVar<Str, NamedExpr>],
 ) -> Result<Vec<GroupVar<Slot, BoundExpr>>, NoMemory>
-    ensures tree { mark ≤ length walk.old.names.variables → IfOk result (λ t. bound_group_vars t.items ≡ compiled_group_vars (below mark walk.old.names) walk.old.names walk.old.number (named_group_vars parts.now)) }
-    ensures walk { mark ≤ length walk.old.names.variables → OnOk result (walk.new ≡ behind_keys walk.old item base mark (named_group_vars parts.now)) }
+    ensures tree { mark ≤ length walk.old.names.variables
+        → IfOk result
+        (λ t.
+        bound_group_vars t.items
+        ≡ compiled_group_vars (below mark walk.old.names) walk.old.names walk.old.number
+        (named_group_vars parts.now)) }
+    ensures walk { mark ≤ length walk.old.names.variables
+        → OnOk result
+        (walk.new ≡ behind_keys walk.old item base mark (named_group_vars parts.now)) }
 {
     let mut out = Vec::new(alloc);
     for part in parts {
@@ -277,8 +343,13 @@ fn key<'q>(
     mark: usize,
     part: &'q GroupVar<Str, NamedExpr>,
 ) -> Result<GroupVar<Slot, BoundExpr>, NoMemory>
-    ensures tree { IfOk result (λ t. bound_group_var t ≡ compiled_group_var (below mark walk.old.names) walk.old.names walk.old.number (named_group_var part.now)) }
-    ensures walk { OnOk result (walk.new ≡ behind_key walk.old item base mark (named_group_var part.now)) }
+    ensures tree { IfOk result
+        (λ t.
+        bound_group_var t
+        ≡ compiled_group_var (below mark walk.old.names) walk.old.names walk.old.number
+        (named_group_var part.now)) }
+    ensures walk { OnOk result
+        (walk.new ≡ behind_key walk.old item base mark (named_group_var part.now)) }
 {
     match part {
         GroupVar::Stream { variable } => stream_key(walk, base, mark, variable),
@@ -294,8 +365,13 @@ fn stream_key<'q>(
     mark: usize,
     variable: &'q Placed<Str>,
 ) -> Result<GroupVar<Slot, BoundExpr>, NoMemory>
-    ensures tree { IfOk result (λ t. bound_group_var t ≡ compiled_group_var (below mark walk.old.names) walk.old.names walk.old.number (stream_group_var variable.now)) }
-    ensures walk { OnOk result (walk.new ≡ behind_key walk.old true base mark (stream_group_var variable.now)) }
+    ensures tree { IfOk result
+        (λ t.
+        bound_group_var t
+        ≡ compiled_group_var (below mark walk.old.names) walk.old.names walk.old.number
+        (stream_group_var variable.now)) }
+    ensures walk { OnOk result
+        (walk.new ≡ behind_key walk.old true base mark (stream_group_var variable.now)) }
 {
     let place = variable.place;
     let number = walk.number();
@@ -319,8 +395,14 @@ fn valued_key<'q>(
     variable: &'q Placed<Str>,
     value: &'q NamedExpr,
 ) -> Result<GroupVar<Slot, BoundExpr>, NoMemory>
-    ensures tree { IfOk result (λ t. bound_group_var t ≡ computed_group_var (binding variable.now walk.old.number) (compiled walk.old.names (walk.old.number + 1) (named_tree value.now))) }
-    ensures walk { OnOk result (walk.new ≡ behind_key walk.old item 0 0 (computed_group_var variable.now (named_tree value.now))) }
+    ensures tree { IfOk result
+        (λ t.
+        bound_group_var t
+        ≡ computed_group_var (binding variable.now walk.old.number)
+        (compiled walk.old.names (walk.old.number + 1) (named_tree value.now))) }
+    ensures walk { OnOk result
+        (walk.new
+        ≡ behind_key walk.old item 0 0 (computed_group_var variable.now (named_tree value.now))) }
 {
     let (variable, _, value) = bound(alloc, walk, item, variable, &None, value)?;
     Ok(GroupVar::Computed { variable, value })
@@ -336,8 +418,14 @@ fn order<'q>(
     stable: bool,
     inner: &'q [OrderKey<NamedExpr>],
 ) -> Result<BoundClause, NoMemory>
-    ensures tree { IfOk result (λ t. bound_clause t ≡ compiled_clause walk.old.names walk.old.number (order_clause place stable (named_order_keys inner.now))) }
-    ensures walk { OnOk result (walk.new ≡ behind_clause walk.old item 0 (order_clause place stable (named_order_keys inner.now))) }
+    ensures tree { IfOk result
+        (λ t.
+        bound_clause t
+        ≡ compiled_clause walk.old.names walk.old.number
+        (order_clause place stable (named_order_keys inner.now))) }
+    ensures walk { OnOk result
+        (walk.new
+        ≡ behind_clause walk.old item 0 (order_clause place stable (named_order_keys inner.now))) }
 {
     let keys = order_keys(alloc, walk, item, inner)?;
     Ok(Clause::Order {
@@ -354,8 +442,12 @@ fn order_keys<'q>(
     item: bool,
     parts: &'q [OrderKey<NamedExpr>],
 ) -> Result<Vec<OrderKey<BoundExpr>>, NoMemory>
-    ensures tree { IfOk result (λ t. bound_order_keys t.items ≡ compiled_order_keys walk.old.names walk.old.number (named_order_keys parts.now)) }
-    ensures walk { OnOk result (walk.new ≡ behind_order_keys walk.old item (named_order_keys parts.now)) }
+    ensures tree { IfOk result
+        (λ t.
+        bound_order_keys t.items
+        ≡ compiled_order_keys walk.old.names walk.old.number (named_order_keys parts.now)) }
+    ensures walk { OnOk result
+        (walk.new ≡ behind_order_keys walk.old item (named_order_keys parts.now)) }
 {
     let mut out = Vec::new(alloc);
     for part in parts {
@@ -372,8 +464,12 @@ fn order_key<'q>(
     item: bool,
     part: &'q OrderKey<NamedExpr>,
 ) -> Result<OrderKey<BoundExpr>, NoMemory>
-    ensures tree { IfOk result (λ t. bound_order_key t ≡ compiled_order_key walk.old.names walk.old.number (named_order_key part.now)) }
-    ensures walk { OnOk result (walk.new ≡ behind_order_key walk.old item (named_order_key part.now)) }
+    ensures tree { IfOk result
+        (λ t.
+        bound_order_key t
+        ≡ compiled_order_key walk.old.names walk.old.number (named_order_key part.now)) }
+    ensures walk { OnOk result
+        (walk.new ≡ behind_order_key walk.old item (named_order_key part.now)) }
 {
     let value = expr(alloc, walk, item, &part.value)?;
     Ok(OrderKey {
@@ -390,8 +486,12 @@ fn count<'q>(
     place: u32,
     variable: &'q Placed<Str>,
 ) -> Result<BoundClause, NoMemory>
-    ensures tree { IfOk result (λ t. bound_clause t ≡ compiled_clause walk.old.names walk.old.number (count_clause place variable.now)) }
-    ensures walk { OnOk result (walk.new ≡ behind_clause walk.old true 0 (count_clause place variable.now)) }
+    ensures tree { IfOk result
+        (λ t.
+        bound_clause t
+        ≡ compiled_clause walk.old.names walk.old.number (count_clause place variable.now)) }
+    ensures walk { OnOk result
+        (walk.new ≡ behind_clause walk.old true 0 (count_clause place variable.now)) }
 {
     let number = walk.open(&variable.name)?;
     Ok(Clause::Count {

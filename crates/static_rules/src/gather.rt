@@ -1,5 +1,6 @@
 //! Parts that were made, or the lack of memory. What is given up for that lack is dropped here, and
-//! these functions are generic: a check needs no proof of its own for each kind of tree that is dropped.
+//! these functions are generic: a check needs no proof of its own for each kind of tree that is
+//! dropped.
 
 ghost use Rattle.std.specs.Prelude.{◌≡◌, List, Ok, IfOk};
 ghost use Rattle.static_rules.specs.Gathering.{Pushed};

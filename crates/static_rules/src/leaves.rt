@@ -52,7 +52,8 @@ pub fn constant(walk: &mut Walk, kind: BoundKind) -> Result<BoundKind, NoMemory>
 
 #[tactic(auto, using(query_tree::proofs::Layers::layers))]
 pub fn var(walk: &mut Walk, item: bool, place: u32, name: &Str) -> Result<BoundKind, NoMemory>
-    ensures tree { IfOk result (λ t. bound_form t ≡ compiled_form walk.old.names walk.old.number (var_form name.now)) }
+    ensures tree { IfOk result
+        (λ t. bound_form t ≡ compiled_form walk.old.names walk.old.number (var_form name.now)) }
     ensures walk { OnOk result (walk.new ≡ behind_form walk.old item place (var_form name.now)) }
 {
     let variable = walk.read(name, place);
@@ -91,7 +92,9 @@ pub fn var_key(
     item: bool,
     variable: &Placed<Str>,
 ) -> Result<Lookup<Slot, BoundExpr>, NoMemory>
-    ensures tree { IfOk result (λ t. bound_lookup t ≡ compiled_lookup walk.old.names walk.old.number (var_lookup variable.now)) }
+    ensures tree { IfOk result
+        (λ t.
+        bound_lookup t ≡ compiled_lookup walk.old.names walk.old.number (var_lookup variable.now)) }
     ensures walk { OnOk result (walk.new ≡ behind_lookup walk.old item (var_lookup variable.now)) }
 {
     let slot = walk.read(&variable.name, variable.place);

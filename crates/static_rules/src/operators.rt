@@ -24,8 +24,15 @@ pub fn comma<'q>(
     rest: &'q [Operand<NamedExpr>],
     first: &'q NamedExpr,
 ) -> Result<BoundKind, NoMemory>
-    ensures tree { IfOk result (λ t. bound_form t ≡ compiled_form walk.old.names walk.old.number (comma_form (named_tree first.now) (named_operands rest.now))) }
-    ensures walk { OnOk result (walk.new ≡ behind_form walk.old item 0 (comma_form (named_tree first.now) (named_operands rest.now))) }
+    ensures tree { IfOk result
+        (λ t.
+        bound_form t
+        ≡ compiled_form walk.old.names walk.old.number
+        (comma_form (named_tree first.now) (named_operands rest.now))) }
+    ensures walk { OnOk result
+        (walk.new
+        ≡ behind_form walk.old item 0
+        (comma_form (named_tree first.now) (named_operands rest.now))) }
 {
     let first = boxed(alloc, expr(alloc, walk, item, first));
     let rest = operands(alloc, walk, item, rest);
@@ -42,8 +49,14 @@ pub fn any_of<'q>(
     rest: &'q [Operand<NamedExpr>],
     first: &'q NamedExpr,
 ) -> Result<BoundKind, NoMemory>
-    ensures tree { IfOk result (λ t. bound_form t ≡ compiled_form walk.old.names walk.old.number (or_form (named_tree first.now) (named_operands rest.now))) }
-    ensures walk { OnOk result (walk.new ≡ behind_form walk.old item 0 (or_form (named_tree first.now) (named_operands rest.now))) }
+    ensures tree { IfOk result
+        (λ t.
+        bound_form t
+        ≡ compiled_form walk.old.names walk.old.number
+        (or_form (named_tree first.now) (named_operands rest.now))) }
+    ensures walk { OnOk result
+        (walk.new
+        ≡ behind_form walk.old item 0 (or_form (named_tree first.now) (named_operands rest.now))) }
 {
     let first = boxed(alloc, expr(alloc, walk, item, first));
     let rest = operands(alloc, walk, item, rest);
@@ -60,8 +73,14 @@ pub fn all_of<'q>(
     rest: &'q [Operand<NamedExpr>],
     first: &'q NamedExpr,
 ) -> Result<BoundKind, NoMemory>
-    ensures tree { IfOk result (λ t. bound_form t ≡ compiled_form walk.old.names walk.old.number (and_form (named_tree first.now) (named_operands rest.now))) }
-    ensures walk { OnOk result (walk.new ≡ behind_form walk.old item 0 (and_form (named_tree first.now) (named_operands rest.now))) }
+    ensures tree { IfOk result
+        (λ t.
+        bound_form t
+        ≡ compiled_form walk.old.names walk.old.number
+        (and_form (named_tree first.now) (named_operands rest.now))) }
+    ensures walk { OnOk result
+        (walk.new
+        ≡ behind_form walk.old item 0 (and_form (named_tree first.now) (named_operands rest.now))) }
 {
     let first = boxed(alloc, expr(alloc, walk, item, first));
     let rest = operands(alloc, walk, item, rest);
@@ -78,8 +97,15 @@ pub fn concat<'q>(
     rest: &'q [Operand<NamedExpr>],
     first: &'q NamedExpr,
 ) -> Result<BoundKind, NoMemory>
-    ensures tree { IfOk result (λ t. bound_form t ≡ compiled_form walk.old.names walk.old.number (concat_form (named_tree first.now) (named_operands rest.now))) }
-    ensures walk { OnOk result (walk.new ≡ behind_form walk.old item 0 (concat_form (named_tree first.now) (named_operands rest.now))) }
+    ensures tree { IfOk result
+        (λ t.
+        bound_form t
+        ≡ compiled_form walk.old.names walk.old.number
+        (concat_form (named_tree first.now) (named_operands rest.now))) }
+    ensures walk { OnOk result
+        (walk.new
+        ≡ behind_form walk.old item 0
+        (concat_form (named_tree first.now) (named_operands rest.now))) }
 {
     let first = boxed(alloc, expr(alloc, walk, item, first));
     let rest = operands(alloc, walk, item, rest);
@@ -96,8 +122,14 @@ pub fn mapping<'q>(
     rest: &'q [Operand<NamedExpr>],
     first: &'q NamedExpr,
 ) -> Result<BoundKind, NoMemory>
-    ensures tree { IfOk result (λ t. bound_form t ≡ compiled_form walk.old.names walk.old.number (map_form (named_tree first.now) (named_operands rest.now))) }
-    ensures walk { OnOk result (walk.new ≡ behind_form walk.old item 0 (map_form (named_tree first.now) (named_operands rest.now))) }
+    ensures tree { IfOk result
+        (λ t.
+        bound_form t
+        ≡ compiled_form walk.old.names walk.old.number
+        (map_form (named_tree first.now) (named_operands rest.now))) }
+    ensures walk { OnOk result
+        (walk.new
+        ≡ behind_form walk.old item 0 (map_form (named_tree first.now) (named_operands rest.now))) }
 {
     let first = boxed(alloc, expr(alloc, walk, item, first));
     let rest = operands(alloc, walk, true, rest);
@@ -114,8 +146,14 @@ pub fn sum<'q>(
     rest: &'q [Term<NamedExpr>],
     first: &'q NamedExpr,
 ) -> Result<BoundKind, NoMemory>
-    ensures tree { IfOk result (λ t. bound_form t ≡ compiled_form walk.old.names walk.old.number (sum_form (named_tree first.now) (named_terms rest.now))) }
-    ensures walk { OnOk result (walk.new ≡ behind_form walk.old item 0 (sum_form (named_tree first.now) (named_terms rest.now))) }
+    ensures tree { IfOk result
+        (λ t.
+        bound_form t
+        ≡ compiled_form walk.old.names walk.old.number
+        (sum_form (named_tree first.now) (named_terms rest.now))) }
+    ensures walk { OnOk result
+        (walk.new
+        ≡ behind_form walk.old item 0 (sum_form (named_tree first.now) (named_terms rest.now))) }
 {
     let first = boxed(alloc, expr(alloc, walk, item, first));
     let rest = terms(alloc, walk, item, rest);
@@ -132,8 +170,15 @@ pub fn product<'q>(
     rest: &'q [Factor<NamedExpr>],
     first: &'q NamedExpr,
 ) -> Result<BoundKind, NoMemory>
-    ensures tree { IfOk result (λ t. bound_form t ≡ compiled_form walk.old.names walk.old.number (product_form (named_tree first.now) (named_factors rest.now))) }
-    ensures walk { OnOk result (walk.new ≡ behind_form walk.old item 0 (product_form (named_tree first.now) (named_factors rest.now))) }
+    ensures tree { IfOk result
+        (λ t.
+        bound_form t
+        ≡ compiled_form walk.old.names walk.old.number
+        (product_form (named_tree first.now) (named_factors rest.now))) }
+    ensures walk { OnOk result
+        (walk.new
+        ≡ behind_form walk.old item 0
+        (product_form (named_tree first.now) (named_factors rest.now))) }
 {
     let first = boxed(alloc, expr(alloc, walk, item, first));
     let rest = factors(alloc, walk, item, rest);
@@ -152,8 +197,15 @@ pub fn compare<'q>(
     place: u32,
     right: &'q NamedExpr,
 ) -> Result<BoundKind, NoMemory>
-    ensures tree { IfOk result (λ t. bound_form t ≡ compiled_form walk.old.names walk.old.number (compare_form (named_tree left.now) op place (named_tree right.now))) }
-    ensures walk { OnOk result (walk.new ≡ behind_form walk.old item 0 (compare_form (named_tree left.now) op place (named_tree right.now))) }
+    ensures tree { IfOk result
+        (λ t.
+        bound_form t
+        ≡ compiled_form walk.old.names walk.old.number
+        (compare_form (named_tree left.now) op place (named_tree right.now))) }
+    ensures walk { OnOk result
+        (walk.new
+        ≡ behind_form walk.old item 0
+        (compare_form (named_tree left.now) op place (named_tree right.now))) }
 {
     let left = boxed(alloc, expr(alloc, walk, item, left));
     let right = boxed(alloc, expr(alloc, walk, item, right));
@@ -176,8 +228,15 @@ pub fn range<'q>(
     place: u32,
     right: &'q NamedExpr,
 ) -> Result<BoundKind, NoMemory>
-    ensures tree { IfOk result (λ t. bound_form t ≡ compiled_form walk.old.names walk.old.number (range_form (named_tree left.now) place (named_tree right.now))) }
-    ensures walk { OnOk result (walk.new ≡ behind_form walk.old item 0 (range_form (named_tree left.now) place (named_tree right.now))) }
+    ensures tree { IfOk result
+        (λ t.
+        bound_form t
+        ≡ compiled_form walk.old.names walk.old.number
+        (range_form (named_tree left.now) place (named_tree right.now))) }
+    ensures walk { OnOk result
+        (walk.new
+        ≡ behind_form walk.old item 0
+        (range_form (named_tree left.now) place (named_tree right.now))) }
 {
     let left = boxed(alloc, expr(alloc, walk, item, left));
     let right = boxed(alloc, expr(alloc, walk, item, right));
@@ -193,8 +252,12 @@ pub fn negation<'q>(
     item: bool,
     operand: &'q NamedExpr,
 ) -> Result<BoundKind, NoMemory>
-    ensures tree { IfOk result (λ t. bound_form t ≡ compiled_form walk.old.names walk.old.number (not_form (named_tree operand.now))) }
-    ensures walk { OnOk result (walk.new ≡ behind_form walk.old item 0 (not_form (named_tree operand.now))) }
+    ensures tree { IfOk result
+        (λ t.
+        bound_form t
+        ≡ compiled_form walk.old.names walk.old.number (not_form (named_tree operand.now))) }
+    ensures walk { OnOk result
+        (walk.new ≡ behind_form walk.old item 0 (not_form (named_tree operand.now))) }
 {
     let operand = boxed(alloc, expr(alloc, walk, item, operand))?;
     Ok(Kind::Not { operand })
@@ -209,8 +272,13 @@ pub fn sign<'q>(
     signs: &[(SumOp, u32)],
     operand: &'q NamedExpr,
 ) -> Result<BoundKind, NoMemory>
-    ensures tree { IfOk result (λ t. bound_form t ≡ compiled_form walk.old.names walk.old.number (sign_form signs.now (named_tree operand.now))) }
-    ensures walk { OnOk result (walk.new ≡ behind_form walk.old item 0 (sign_form signs.now (named_tree operand.now))) }
+    ensures tree { IfOk result
+        (λ t.
+        bound_form t
+        ≡ compiled_form walk.old.names walk.old.number
+        (sign_form signs.now (named_tree operand.now))) }
+    ensures walk { OnOk result
+        (walk.new ≡ behind_form walk.old item 0 (sign_form signs.now (named_tree operand.now))) }
 {
     let signs = copied_signs(alloc, signs);
     let operand = boxed(alloc, expr(alloc, walk, item, operand));
@@ -228,8 +296,14 @@ pub fn instance<'q>(
     place: u32,
     of: &Placed<TypeName>,
 ) -> Result<BoundKind, NoMemory>
-    ensures tree { IfOk result (λ t. bound_form t ≡ compiled_form walk.old.names walk.old.number (instance_form (named_tree operand.now) place of.now)) }
-    ensures walk { OnOk result (walk.new ≡ behind_form walk.old item 0 (instance_form (named_tree operand.now) place of.now)) }
+    ensures tree { IfOk result
+        (λ t.
+        bound_form t
+        ≡ compiled_form walk.old.names walk.old.number
+        (instance_form (named_tree operand.now) place of.now)) }
+    ensures walk { OnOk result
+        (walk.new
+        ≡ behind_form walk.old item 0 (instance_form (named_tree operand.now) place of.now)) }
 {
     let operand = boxed(alloc, expr(alloc, walk, item, operand))?;
     let of = walk.seq_type(of);
@@ -246,8 +320,14 @@ pub fn treat<'q>(
     place: u32,
     to: &Placed<TypeName>,
 ) -> Result<BoundKind, NoMemory>
-    ensures tree { IfOk result (λ t. bound_form t ≡ compiled_form walk.old.names walk.old.number (treat_form (named_tree operand.now) place to.now)) }
-    ensures walk { OnOk result (walk.new ≡ behind_form walk.old item 0 (treat_form (named_tree operand.now) place to.now)) }
+    ensures tree { IfOk result
+        (λ t.
+        bound_form t
+        ≡ compiled_form walk.old.names walk.old.number
+        (treat_form (named_tree operand.now) place to.now)) }
+    ensures walk { OnOk result
+        (walk.new
+        ≡ behind_form walk.old item 0 (treat_form (named_tree operand.now) place to.now)) }
 {
     let operand = boxed(alloc, expr(alloc, walk, item, operand))?;
     let to = walk.seq_type(to);
@@ -264,8 +344,14 @@ pub fn castable<'q>(
     place: u32,
     to: &Placed<TypeName>,
 ) -> Result<BoundKind, NoMemory>
-    ensures tree { IfOk result (λ t. bound_form t ≡ compiled_form walk.old.names walk.old.number (castable_form (named_tree operand.now) place to.now)) }
-    ensures walk { OnOk result (walk.new ≡ behind_form walk.old item 0 (castable_form (named_tree operand.now) place to.now)) }
+    ensures tree { IfOk result
+        (λ t.
+        bound_form t
+        ≡ compiled_form walk.old.names walk.old.number
+        (castable_form (named_tree operand.now) place to.now)) }
+    ensures walk { OnOk result
+        (walk.new
+        ≡ behind_form walk.old item 0 (castable_form (named_tree operand.now) place to.now)) }
 {
     let operand = boxed(alloc, expr(alloc, walk, item, operand))?;
     let to = walk.cast_type(to);
@@ -282,8 +368,13 @@ pub fn cast<'q>(
     place: u32,
     to: &Placed<TypeName>,
 ) -> Result<BoundKind, NoMemory>
-    ensures tree { IfOk result (λ t. bound_form t ≡ compiled_form walk.old.names walk.old.number (cast_form (named_tree operand.now) place to.now)) }
-    ensures walk { OnOk result (walk.new ≡ behind_form walk.old item 0 (cast_form (named_tree operand.now) place to.now)) }
+    ensures tree { IfOk result
+        (λ t.
+        bound_form t
+        ≡ compiled_form walk.old.names walk.old.number
+        (cast_form (named_tree operand.now) place to.now)) }
+    ensures walk { OnOk result
+        (walk.new ≡ behind_form walk.old item 0 (cast_form (named_tree operand.now) place to.now)) }
 {
     let operand = boxed(alloc, expr(alloc, walk, item, operand))?;
     let to = walk.cast_type(to);
@@ -297,8 +388,12 @@ fn operands<'q>(
     item: bool,
     parts: &'q [Operand<NamedExpr>],
 ) -> Result<Vec<Operand<BoundExpr>>, NoMemory>
-    ensures tree { IfOk result (λ t. bound_operands t.items ≡ compiled_operands walk.old.names walk.old.number (named_operands parts.now)) }
-    ensures walk { OnOk result (walk.new ≡ behind_operands walk.old item (named_operands parts.now)) }
+    ensures tree { IfOk result
+        (λ t.
+        bound_operands t.items
+        ≡ compiled_operands walk.old.names walk.old.number (named_operands parts.now)) }
+    ensures walk { OnOk result
+        (walk.new ≡ behind_operands walk.old item (named_operands parts.now)) }
 {
     let mut out = Vec::new(alloc);
     for part in parts {
@@ -315,7 +410,10 @@ fn operand<'q>(
     item: bool,
     part: &'q Operand<NamedExpr>,
 ) -> Result<Operand<BoundExpr>, NoMemory>
-    ensures tree { IfOk result (λ t. bound_operand t ≡ compiled_operand walk.old.names walk.old.number (named_operand part.now)) }
+    ensures tree { IfOk result
+        (λ t.
+        bound_operand t
+        ≡ compiled_operand walk.old.names walk.old.number (named_operand part.now)) }
     ensures walk { OnOk result (walk.new ≡ behind_operand walk.old item (named_operand part.now)) }
 {
     let value = expr(alloc, walk, item, &part.value)?;
@@ -332,7 +430,10 @@ fn terms<'q>(
     item: bool,
     parts: &'q [Term<NamedExpr>],
 ) -> Result<Vec<Term<BoundExpr>>, NoMemory>
-    ensures tree { IfOk result (λ t. bound_terms t.items ≡ compiled_terms walk.old.names walk.old.number (named_terms parts.now)) }
+    ensures tree { IfOk result
+        (λ t.
+        bound_terms t.items
+        ≡ compiled_terms walk.old.names walk.old.number (named_terms parts.now)) }
     ensures walk { OnOk result (walk.new ≡ behind_terms walk.old item (named_terms parts.now)) }
 {
     let mut out = Vec::new(alloc);
@@ -350,7 +451,8 @@ fn term<'q>(
     item: bool,
     part: &'q Term<NamedExpr>,
 ) -> Result<Term<BoundExpr>, NoMemory>
-    ensures tree { IfOk result (λ t. bound_term t ≡ compiled_term walk.old.names walk.old.number (named_term part.now)) }
+    ensures tree { IfOk result
+        (λ t. bound_term t ≡ compiled_term walk.old.names walk.old.number (named_term part.now)) }
     ensures walk { OnOk result (walk.new ≡ behind_term walk.old item (named_term part.now)) }
 {
     let value = expr(alloc, walk, item, &part.value)?;
@@ -368,7 +470,10 @@ fn factors<'q>(
     item: bool,
     parts: &'q [Factor<NamedExpr>],
 ) -> Result<Vec<Factor<BoundExpr>>, NoMemory>
-    ensures tree { IfOk result (λ t. bound_factors t.items ≡ compiled_factors walk.old.names walk.old.number (named_factors parts.now)) }
+    ensures tree { IfOk result
+        (λ t.
+        bound_factors t.items
+        ≡ compiled_factors walk.old.names walk.old.number (named_factors parts.now)) }
     ensures walk { OnOk result (walk.new ≡ behind_factors walk.old item (named_factors parts.now)) }
 {
     let mut out = Vec::new(alloc);
@@ -386,7 +491,9 @@ fn factor<'q>(
     item: bool,
     part: &'q Factor<NamedExpr>,
 ) -> Result<Factor<BoundExpr>, NoMemory>
-    ensures tree { IfOk result (λ t. bound_factor t ≡ compiled_factor walk.old.names walk.old.number (named_factor part.now)) }
+    ensures tree { IfOk result
+        (λ t.
+        bound_factor t ≡ compiled_factor walk.old.names walk.old.number (named_factor part.now)) }
     ensures walk { OnOk result (walk.new ≡ behind_factor walk.old item (named_factor part.now)) }
 {
     let value = expr(alloc, walk, item, &part.value)?;

@@ -21,8 +21,12 @@ pub fn paren<'q>(
     item: bool,
     inner: &'q Option<Box<NamedExpr>>,
 ) -> Result<BoundKind, NoMemory>
-    ensures tree { IfOk result (λ t. bound_form t ≡ compiled_form walk.old.names walk.old.number (paren_form (named_content inner.now))) }
-    ensures walk { OnOk result (walk.new ≡ behind_form walk.old item 0 (paren_form (named_content inner.now))) }
+    ensures tree { IfOk result
+        (λ t.
+        bound_form t
+        ≡ compiled_form walk.old.names walk.old.number (paren_form (named_content inner.now))) }
+    ensures walk { OnOk result
+        (walk.new ≡ behind_form walk.old item 0 (paren_form (named_content inner.now))) }
 {
     let content = content(alloc, walk, item, inner)?;
     Ok(Kind::Paren { content })
@@ -36,8 +40,12 @@ pub fn merge<'q>(
     item: bool,
     inner: &'q Option<Box<NamedExpr>>,
 ) -> Result<BoundKind, NoMemory>
-    ensures tree { IfOk result (λ t. bound_form t ≡ compiled_form walk.old.names walk.old.number (merge_form (named_content inner.now))) }
-    ensures walk { OnOk result (walk.new ≡ behind_form walk.old item 0 (merge_form (named_content inner.now))) }
+    ensures tree { IfOk result
+        (λ t.
+        bound_form t
+        ≡ compiled_form walk.old.names walk.old.number (merge_form (named_content inner.now))) }
+    ensures walk { OnOk result
+        (walk.new ≡ behind_form walk.old item 0 (merge_form (named_content inner.now))) }
 {
     let content = content(alloc, walk, item, inner)?;
     Ok(Kind::Merge { content })
@@ -51,8 +59,12 @@ pub fn array<'q>(
     item: bool,
     inner: &'q Option<Box<NamedExpr>>,
 ) -> Result<BoundKind, NoMemory>
-    ensures tree { IfOk result (λ t. bound_form t ≡ compiled_form walk.old.names walk.old.number (array_form (named_content inner.now))) }
-    ensures walk { OnOk result (walk.new ≡ behind_form walk.old item 0 (array_form (named_content inner.now))) }
+    ensures tree { IfOk result
+        (λ t.
+        bound_form t
+        ≡ compiled_form walk.old.names walk.old.number (array_form (named_content inner.now))) }
+    ensures walk { OnOk result
+        (walk.new ≡ behind_form walk.old item 0 (array_form (named_content inner.now))) }
 {
     let content = content(alloc, walk, item, inner)?;
     Ok(Kind::Array { content })
@@ -66,8 +78,12 @@ fn content<'q>(
     item: bool,
     content: &'q Option<Box<NamedExpr>>,
 ) -> Result<Option<Box<BoundExpr>>, NoMemory>
-    ensures tree { IfOk result (λ t. bound_content t ≡ compiled_content walk.old.names walk.old.number (named_content content.now)) }
-    ensures walk { OnOk result (walk.new ≡ behind_content walk.old item (named_content content.now)) }
+    ensures tree { IfOk result
+        (λ t.
+        bound_content t
+        ≡ compiled_content walk.old.names walk.old.number (named_content content.now)) }
+    ensures walk { OnOk result
+        (walk.new ≡ behind_content walk.old item (named_content content.now)) }
 {
     match content {
         None => Ok(None),
@@ -83,7 +99,9 @@ fn one<'q>(
     item: bool,
     e: &'q NamedExpr,
 ) -> Result<Option<Box<BoundExpr>>, NoMemory>
-    ensures tree { IfOk result (λ t. bound_content t ≡ one_tree (compiled walk.old.names walk.old.number (named_tree e.now))) }
+    ensures tree { IfOk result
+        (λ t.
+        bound_content t ≡ one_tree (compiled walk.old.names walk.old.number (named_tree e.now))) }
     ensures walk { OnOk result (walk.new ≡ behind_tree walk.old item (named_tree e.now)) }
 {
     let e = boxed(alloc, expr(alloc, walk, item, e))?;
@@ -98,8 +116,12 @@ pub fn object<'q>(
     item: bool,
     inner: &'q [Pair<NamedExpr>],
 ) -> Result<BoundKind, NoMemory>
-    ensures tree { IfOk result (λ t. bound_form t ≡ compiled_form walk.old.names walk.old.number (object_form (named_pairs inner.now))) }
-    ensures walk { OnOk result (walk.new ≡ behind_form walk.old item 0 (object_form (named_pairs inner.now))) }
+    ensures tree { IfOk result
+        (λ t.
+        bound_form t
+        ≡ compiled_form walk.old.names walk.old.number (object_form (named_pairs inner.now))) }
+    ensures walk { OnOk result
+        (walk.new ≡ behind_form walk.old item 0 (object_form (named_pairs inner.now))) }
 {
     let pairs = pairs(alloc, walk, item, inner)?;
     Ok(Kind::Object { pairs })
@@ -112,7 +134,10 @@ fn pairs<'q>(
     item: bool,
     parts: &'q [Pair<NamedExpr>],
 ) -> Result<Vec<Pair<BoundExpr>>, NoMemory>
-    ensures tree { IfOk result (λ t. bound_pairs t.items ≡ compiled_pairs walk.old.names walk.old.number (named_pairs parts.now)) }
+    ensures tree { IfOk result
+        (λ t.
+        bound_pairs t.items
+        ≡ compiled_pairs walk.old.names walk.old.number (named_pairs parts.now)) }
     ensures walk { OnOk result (walk.new ≡ behind_pairs walk.old item (named_pairs parts.now)) }
 {
     let mut out = Vec::new(alloc);
@@ -130,7 +155,8 @@ fn pair<'q>(
     item: bool,
     part: &'q Pair<NamedExpr>,
 ) -> Result<Pair<BoundExpr>, NoMemory>
-    ensures tree { IfOk result (λ t. bound_pair t ≡ compiled_pair walk.old.names walk.old.number (source_pair part.now)) }
+    ensures tree { IfOk result
+        (λ t. bound_pair t ≡ compiled_pair walk.old.names walk.old.number (source_pair part.now)) }
     ensures walk { OnOk result (walk.new ≡ behind_pair walk.old item (source_pair part.now)) }
 {
     match part {
@@ -151,7 +177,11 @@ fn plain_pair<'q>(
     place: u32,
     value: &'q NamedExpr,
 ) -> Result<Pair<BoundExpr>, NoMemory>
-    ensures tree { IfOk result (λ t. bound_pair t ≡ named_pair name.now place (compiled walk.old.names walk.old.number (named_tree value.now))) }
+    ensures tree { IfOk result
+        (λ t.
+        bound_pair t
+        ≡ named_pair name.now place
+        (compiled walk.old.names walk.old.number (named_tree value.now))) }
     ensures walk { OnOk result (walk.new ≡ behind_tree walk.old item (named_tree value.now)) }
 {
     let name = name.copy()?;
@@ -169,8 +199,15 @@ fn computed_pair<'q>(
     place: u32,
     value: &'q NamedExpr,
 ) -> Result<Pair<BoundExpr>, NoMemory>
-    ensures tree { IfOk result (λ t. bound_pair t ≡ compiled_pair walk.old.names walk.old.number (computed_pair (named_tree key.now) place (named_tree value.now))) }
-    ensures walk { OnOk result (walk.new ≡ behind_pair walk.old item (computed_pair (named_tree key.now) place (named_tree value.now))) }
+    ensures tree { IfOk result
+        (λ t.
+        bound_pair t
+        ≡ compiled_pair walk.old.names walk.old.number
+        (computed_pair (named_tree key.now) place (named_tree value.now))) }
+    ensures walk { OnOk result
+        (walk.new
+        ≡ behind_pair walk.old item
+        (computed_pair (named_tree key.now) place (named_tree value.now))) }
 {
     let key = expr(alloc, walk, item, key);
     let value = expr(alloc, walk, item, value);
@@ -188,8 +225,14 @@ pub fn call<'q>(
     function: &Str,
     arguments: &'q [NamedExpr],
 ) -> Result<BoundKind, NoMemory>
-    ensures tree { IfOk result (λ t. bound_form t ≡ compiled_form walk.old.names walk.old.number (call_form function.now (named_trees arguments.now))) }
-    ensures walk { OnOk result (walk.new ≡ behind_form walk.old item place (call_form function.now (named_trees arguments.now))) }
+    ensures tree { IfOk result
+        (λ t.
+        bound_form t
+        ≡ compiled_form walk.old.names walk.old.number
+        (call_form function.now (named_trees arguments.now))) }
+    ensures walk { OnOk result
+        (walk.new
+        ≡ behind_form walk.old item place (call_form function.now (named_trees arguments.now))) }
 {
     let function = walk.call(alloc, place, function, arguments);
     let arguments = trees(alloc, walk, item, arguments);
@@ -207,7 +250,10 @@ pub fn trees<'q>(
     item: bool,
     parts: &'q [NamedExpr],
 ) -> Result<Vec<BoundExpr>, NoMemory>
-    ensures tree { IfOk result (λ t. bound_trees t.items ≡ compiled_trees walk.old.names walk.old.number (named_trees parts.now)) }
+    ensures tree { IfOk result
+        (λ t.
+        bound_trees t.items
+        ≡ compiled_trees walk.old.names walk.old.number (named_trees parts.now)) }
     ensures walk { OnOk result (walk.new ≡ behind_trees walk.old item (named_trees parts.now)) }
 {
     let mut out = Vec::new(alloc);

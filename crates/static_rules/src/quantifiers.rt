@@ -26,8 +26,15 @@ pub fn quantified<'q>(
     quantifier: Quantifier,
     test: &'q NamedExpr,
 ) -> Result<BoundKind, NoMemory>
-    ensures tree { IfOk result (λ t. bound_form t ≡ compiled_form walk.old.names walk.old.number (quant_form quantifier (named_binds inner.now) (named_tree test.now))) }
-    ensures walk { OnOk result (walk.new ≡ behind_form walk.old item 0 (quant_form quantifier (named_binds inner.now) (named_tree test.now))) }
+    ensures tree { IfOk result
+        (λ t.
+        bound_form t
+        ≡ compiled_form walk.old.names walk.old.number
+        (quant_form quantifier (named_binds inner.now) (named_tree test.now))) }
+    ensures walk { OnOk result
+        (walk.new
+        ≡ behind_form walk.old item 0
+        (quant_form quantifier (named_binds inner.now) (named_tree test.now))) }
 {
     let depth = walk.depth();
     let binds = binds(alloc, walk, item, inner);
@@ -48,7 +55,10 @@ fn binds<'q>(
     item: bool,
     parts: &'q [Bind<Str, TypeName, NamedExpr>],
 ) -> Result<Vec<Bind<Slot, SeqType, BoundExpr>>, NoMemory>
-    ensures tree { IfOk result (λ t. bound_binds t.items ≡ compiled_binds walk.old.names walk.old.number (named_binds parts.now)) }
+    ensures tree { IfOk result
+        (λ t.
+        bound_binds t.items
+        ≡ compiled_binds walk.old.names walk.old.number (named_binds parts.now)) }
     ensures walk { OnOk result (walk.new ≡ behind_binds walk.old item (named_binds parts.now)) }
 {
     let mut out = Vec::new(alloc);
@@ -66,7 +76,8 @@ fn bind<'q>(
     item: bool,
     part: &'q Bind<Str, TypeName, NamedExpr>,
 ) -> Result<Bind<Slot, SeqType, BoundExpr>, NoMemory>
-    ensures tree { IfOk result (λ t. bound_bind t ≡ compiled_bind walk.old.names walk.old.number (named_bind part.now)) }
+    ensures tree { IfOk result
+        (λ t. bound_bind t ≡ compiled_bind walk.old.names walk.old.number (named_bind part.now)) }
     ensures walk { OnOk result (walk.new ≡ behind_bind walk.old item (named_bind part.now)) }
 {
     let (variable, of, source) = bound(alloc, walk, item, &part.variable, &part.of, &part.source)?;

@@ -22,8 +22,15 @@ pub fn postfix<'q>(
     rest: &'q [Step<Str, NamedExpr>],
     primary: &'q NamedExpr,
 ) -> Result<BoundKind, NoMemory>
-    ensures tree { IfOk result (λ t. bound_form t ≡ compiled_form walk.old.names walk.old.number (postfix_form (named_tree primary.now) (named_steps rest.now))) }
-    ensures walk { OnOk result (walk.new ≡ behind_form walk.old item 0 (postfix_form (named_tree primary.now) (named_steps rest.now))) }
+    ensures tree { IfOk result
+        (λ t.
+        bound_form t
+        ≡ compiled_form walk.old.names walk.old.number
+        (postfix_form (named_tree primary.now) (named_steps rest.now))) }
+    ensures walk { OnOk result
+        (walk.new
+        ≡ behind_form walk.old item 0
+        (postfix_form (named_tree primary.now) (named_steps rest.now))) }
 {
     let primary = boxed(alloc, expr(alloc, walk, item, primary));
     let steps = steps(alloc, walk, item, rest);
@@ -38,7 +45,10 @@ fn steps<'q>(
     item: bool,
     parts: &'q [Step<Str, NamedExpr>],
 ) -> Result<Vec<Step<Slot, BoundExpr>>, NoMemory>
-    ensures tree { IfOk result (λ t. bound_steps t.items ≡ compiled_steps walk.old.names walk.old.number (named_steps parts.now)) }
+    ensures tree { IfOk result
+        (λ t.
+        bound_steps t.items
+        ≡ compiled_steps walk.old.names walk.old.number (named_steps parts.now)) }
     ensures walk { OnOk result (walk.new ≡ behind_steps walk.old item (named_steps parts.now)) }
 {
     let mut out = Vec::new(alloc);
@@ -56,7 +66,8 @@ fn step<'q>(
     item: bool,
     part: &'q Step<Str, NamedExpr>,
 ) -> Result<Step<Slot, BoundExpr>, NoMemory>
-    ensures tree { IfOk result (λ t. bound_step t ≡ compiled_step walk.old.names walk.old.number (named_step part.now)) }
+    ensures tree { IfOk result
+        (λ t. bound_step t ≡ compiled_step walk.old.names walk.old.number (named_step part.now)) }
     ensures walk { OnOk result (walk.new ≡ behind_step walk.old item (named_step part.now)) }
 {
     match part {
@@ -76,7 +87,10 @@ fn member<'q>(
     place: u32,
     position: &'q NamedExpr,
 ) -> Result<Step<Slot, BoundExpr>, NoMemory>
-    ensures tree { IfOk result (λ t. bound_step t ≡ member_step place (compiled walk.old.names walk.old.number (named_tree position.now))) }
+    ensures tree { IfOk result
+        (λ t.
+        bound_step t
+        ≡ member_step place (compiled walk.old.names walk.old.number (named_tree position.now))) }
     ensures walk { OnOk result (walk.new ≡ behind_tree walk.old item (named_tree position.now)) }
 {
     let position = expr(alloc, walk, item, position)?;
@@ -92,8 +106,12 @@ fn filter<'q>(
     place: u32,
     test: &'q NamedExpr,
 ) -> Result<Step<Slot, BoundExpr>, NoMemory>
-    ensures tree { IfOk result (λ t. bound_step t ≡ filter_step place (compiled walk.old.names walk.old.number (named_tree test.now))) }
-    ensures walk { OnOk result (walk.new ≡ behind_step walk.old item (filter_step place (named_tree test.now))) }
+    ensures tree { IfOk result
+        (λ t.
+        bound_step t
+        ≡ filter_step place (compiled walk.old.names walk.old.number (named_tree test.now))) }
+    ensures walk { OnOk result
+        (walk.new ≡ behind_step walk.old item (filter_step place (named_tree test.now))) }
 {
     let test = expr(alloc, walk, true, test)?;
     Ok(Step::Filter { place, test })
@@ -108,7 +126,11 @@ fn field<'q>(
     place: u32,
     part: &'q Lookup<Str, NamedExpr>,
 ) -> Result<Step<Slot, BoundExpr>, NoMemory>
-    ensures tree { IfOk result (λ t. bound_step t ≡ field_step place (compiled_lookup walk.old.names walk.old.number (named_lookup part.now))) }
+    ensures tree { IfOk result
+        (λ t.
+        bound_step t
+        ≡ field_step place
+        (compiled_lookup walk.old.names walk.old.number (named_lookup part.now))) }
     ensures walk { OnOk result (walk.new ≡ behind_lookup walk.old item (named_lookup part.now)) }
 {
     let key = lookup(alloc, walk, item, part)?;
@@ -123,7 +145,9 @@ fn lookup<'q>(
     item: bool,
     part: &'q Lookup<Str, NamedExpr>,
 ) -> Result<Lookup<Slot, BoundExpr>, NoMemory>
-    ensures tree { IfOk result (λ t. bound_lookup t ≡ compiled_lookup walk.old.names walk.old.number (named_lookup part.now)) }
+    ensures tree { IfOk result
+        (λ t.
+        bound_lookup t ≡ compiled_lookup walk.old.names walk.old.number (named_lookup part.now)) }
     ensures walk { OnOk result (walk.new ≡ behind_lookup walk.old item (named_lookup part.now)) }
 {
     match part {
@@ -143,7 +167,10 @@ fn computed_key<'q>(
     item: bool,
     value: &'q NamedExpr,
 ) -> Result<Lookup<Slot, BoundExpr>, NoMemory>
-    ensures tree { IfOk result (λ t. bound_lookup t ≡ computed_lookup (compiled walk.old.names walk.old.number (named_tree value.now))) }
+    ensures tree { IfOk result
+        (λ t.
+        bound_lookup t
+        ≡ computed_lookup (compiled walk.old.names walk.old.number (named_tree value.now))) }
     ensures walk { OnOk result (walk.new ≡ behind_tree walk.old item (named_tree value.now)) }
 {
     let value = expr(alloc, walk, item, value)?;

@@ -57,7 +57,15 @@ impl<'q> Model for Walk<'q> {
 
     ghost Value = { State };
 
-    ghost view = { λ w. record { names = record { variables = bindings_of w.names.items; functions = map callee_of w.functions.items }; number = w.number; first = w.first } };
+    ghost view = { λ w.
+        record {
+          names = record {
+            variables = bindings_of w.names.items;
+            functions = map callee_of w.functions.items;
+          };
+          number = w.number;
+          first = w.first;
+        } };
 }
 
 impl<'q> Walk<'q> {
@@ -96,7 +104,10 @@ impl<'q> Walk<'q> {
         variable: &Placed<Str>,
         position: &Option<Placed<Str>>,
     ) -> Result<(), NoMemory>
-        ensures { OnOk result (self.new ≡ passed self.old (position_mentions variable.now position.now) (any_name position.now)) }
+        ensures { OnOk result
+            (self.new
+            ≡ passed self.old (position_mentions variable.now position.now)
+            (any_name position.now)) }
     {
         match position {
             None => Ok(()),
@@ -181,7 +192,9 @@ impl<'q> Walk<'q> {
 
     /// Keeps a refusal, where it comes before all others.
     pub fn refuse(&mut self, rule: Rule, place: u32)
-        ensures { self.new ≡ record self.old { first = sooner self.old.first (Some (record { place = place; rule = rule })) } }
+        ensures { self.new
+            ≡ record self.old
+            { first = sooner self.old.first (Some (record { place = place; rule = rule })) } }
     {
         let refusal = Refusal { place, rule };
         self.first = Some(match self.first {
@@ -209,7 +222,8 @@ impl<'q> Walk<'q> {
     /// The type of a sequence.
     pub fn seq_type(&mut self, t: &Placed<TypeName>) -> Placed<SeqType>
         ensures value { result ≡ placed_type t.now }
-        ensures walk { self.new ≡ passed self.old (mention_at t.now.place (has_type t.now.name) ∷ []) [] }
+        ensures walk { self.new
+            ≡ passed self.old (mention_at t.now.place (has_type t.now.name) ∷ []) [] }
     {
         self.test(is_unknown_type(&t.name), Rule::UnknownType, t.place);
         placed_type(t)
@@ -218,7 +232,8 @@ impl<'q> Walk<'q> {
     /// The type of a cast.
     pub fn cast_type(&mut self, t: &Placed<TypeName>) -> Placed<SeqType>
         ensures value { result ≡ placed_type t.now }
-        ensures walk { self.new ≡ passed self.old (mention_at t.now.place (casts_to t.now.name) ∷ []) [] }
+        ensures walk { self.new
+            ≡ passed self.old (mention_at t.now.place (casts_to t.now.name) ∷ []) [] }
     {
         self.test(
             is_unknown_cast_type(&t.name),
@@ -236,8 +251,13 @@ impl<'q> Walk<'q> {
         name: &Str,
         arguments: &[NamedExpr],
     ) -> Result<Target, NoMemory>
-        ensures value { IfOk result (λ t. t ≡ target_of self.old.names name.now (named_trees arguments.now)) }
-        ensures walk { OnOk result (self.new ≡ passed self.old (mention_at place (calls name.now (named_trees arguments.now) self.old.names.functions) ∷ []) []) }
+        ensures value { IfOk result
+            (λ t. t ≡ target_of self.old.names name.now (named_trees arguments.now)) }
+        ensures walk { OnOk result
+            (self.new
+            ≡ passed self.old
+            (mention_at place
+            (calls name.now (named_trees arguments.now) self.old.names.functions) ∷ []) []) }
     {
         if is_lines(name) {
             self.test(!is_one_text(arguments), Rule::UnnamedInput, place);
@@ -248,8 +268,17 @@ impl<'q> Walk<'q> {
     }
 
     fn call_function(&mut self, place: u32, name: &Str, arity: usize) -> Result<Target, NoMemory>
-        ensures value { IfOk result (λ t. t ≡ function_or_own (function_named name.now arity) (own_number self.old.names.functions name.now arity)) }
-        ensures walk { OnOk result (self.new ≡ tested self.old (not (is_built_in name.now arity || has_callee self.old.names.functions name.now arity)) UnknownFunction place) }
+        ensures value { IfOk result
+            (λ t.
+            t
+            ≡ function_or_own (function_named name.now arity)
+            (own_number self.old.names.functions name.now arity)) }
+        ensures walk { OnOk result
+            (self.new
+            ≡ tested self.old
+            (not
+            (is_built_in name.now arity || has_callee self.old.names.functions name.now arity))
+            UnknownFunction place) }
     {
         let built = FnId::find(name.as_str(), arity);
         let own = own_position(&self.functions, name, arity);
@@ -260,11 +289,14 @@ impl<'q> Walk<'q> {
         }
     }
 
-    /// The variable of the stream by which a key groups. The stream was bound behind the first `base`
-    /// variables, and before all behind the first `mark`.
+    /// The variable of the stream by which a key groups. The stream was bound behind the first
+    /// `base` variables, and before all behind the first `mark`.
     pub fn group(&mut self, name: &Str, place: u32, base: usize, mark: usize) -> Slot
         ensures slot { result ≡ slot_of (below mark self.old.names) name.now }
-        ensures walk { self.new ≡ passed self.old (mention_at place (groups_by name.now (stream_of base (below mark self.old.names))) ∷ []) [] }
+        ensures walk { self.new
+            ≡ passed self.old
+            (mention_at place (groups_by name.now (stream_of base (below mark self.old.names)))
+            ∷ []) [] }
     {
         let found = latest(self.first_names(mark), name);
         let known = self.is_between(name, base, mark);
@@ -297,7 +329,9 @@ impl<'q> Walk<'q> {
     #[tactic(auto, using(crate::proofs::Stacking::reading))]
     pub fn read(&mut self, name: &Str, place: u32) -> Slot
         ensures slot { result ≡ slot_of self.old.names name.now }
-        ensures walk { self.new ≡ passed self.old (mention_at place (reads name.now (bound_names self.old.names.variables)) ∷ []) [] }
+        ensures walk { self.new
+            ≡ passed self.old
+            (mention_at place (reads name.now (bound_names self.old.names.variables)) ∷ []) [] }
     {
         let found = self.find(name);
         self.test(found.is_none(), Rule::UnboundVariable, place);
@@ -376,7 +410,8 @@ impl<'q> Walk<'q> {
         self.functions = functions;
     }
 
-    /// Whether one of the first so many declared functions has this name and takes so many arguments.
+    /// Whether one of the first so many declared functions has this name and takes so many
+    /// arguments.
     pub fn is_declared(&self, number: usize, name: &Str, arity: usize) -> bool
         requires { number ≤ length self.now.names.functions }
         ensures { result ≡ has_callee (earlier_functions self.now.names number) name.now arity }

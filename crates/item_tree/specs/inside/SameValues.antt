@@ -99,7 +99,8 @@ mutual
   there (date_time x) (decimal n) h = absurd (cc)
   there (date_time x) (text u) h = absurd (cc)
   there (date_time x) (date e) h = absurd (cc)
-  there (date_time x) (date_time y) h = ap date_time (date_time_exact x y (is_equal_order (date_time_cmp x y) h))
+  there (date_time x) (date_time y) h =
+      ap date_time (date_time_exact x y (is_equal_order (date_time_cmp x y) h))
   there (date_time x) (array ws) h = absurd (cc)
   there (date_time x) (object ns) h = absurd (cc)
   there (array vs) null h = absurd (cc)
@@ -161,7 +162,9 @@ mutual
 
   members_own : (ms : Members) → same_members ms ms ≡ true
   members_own no_members = refl
-  members_own (member k v ms) = join (bytes_eq k k) (same v v && same_members ms ms) ((bytes_eq-Decides k k).1 refl) (join (same v v) (same_members ms ms) (own v) (members_own ms))
+  members_own (member k v ms) =
+      join (bytes_eq k k) (same v v && same_members ms ms) ((bytes_eq-Decides k k).1 refl)
+      (join (same v v) (same_members ms ms) (own v) (members_own ms))
 
 pub same_decides : (v w : Datum) → Decides (same v w) (v ≡ w)
 same_decides v w = (there v w, λ e. subst (λ u. same v u ≡ true) e (own v))

@@ -36,7 +36,8 @@ pub fn object_of(alloc: Global, pairs: Vec<(Str, Item)>) -> Result<Item, MakeFau
     object_of_distinct(alloc, PairList::of(alloc, pairs)?)
 }
 
-/// The object of the pairs of a list, whose keys differ. They are neither compared nor copied again.
+/// The object of the pairs of a list, whose keys differ. They are neither compared nor copied
+/// again.
 ///
 /// It is refused as too deep exactly where a value has depth 128.
 pub fn object_of_distinct(alloc: Global, list: PairList) -> Result<Item, MakeFault>

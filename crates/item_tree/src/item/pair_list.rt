@@ -23,8 +23,8 @@ fn put_at(pairs: &mut Vec<(Str, Item)>, at: usize, value: Item)
 
 /// Pairs in order of insertion, with different keys, from which an object is made.
 ///
-/// The time to find a key or to put a pair grows with the logarithm of the number of pairs, whatever
-/// the keys are.
+/// The time to find a key or to put a pair grows with the logarithm of the number of pairs,
+/// whatever the keys are.
 #[derive(Debug, Drop)]
 pub struct PairList {
     pub(super) pairs: Vec<(Str, Item)>,

@@ -1,4 +1,5 @@
--- How a reader builds an item from events, and so what it makes of a line. Nothing here is part of what a line reads as: `laws` says that it is the same.
+-- How a reader builds an item from events, and so what it makes of a line. Nothing here is part
+-- of what a line reads as: `laws` says that it is the same.
 use Rattle.std.specs.Prelude.{ℕ, nat_lt, Bool, false, List, [], ◌∷◌, ◌++◌, length, Option, Some, None, option_map, Ok, Err, if◌then◌else◌}
 use Rattle.num_fixed.specs.Values.{number_in_bounds, said}
 use Rattle.num_fixed.specs.declared.number.Number.{Number}
@@ -14,7 +15,8 @@ use Rattle.json_text.specs.inside.Machine.{Event, opens_array, opens_object, clo
 abbrev pub number_outcome : Number → Outcome Datum
 number_outcome x = if number_in_bounds x then Ok (number_datum x) else Err number_out
 
--- an open array and its values so far; an open object, its pairs so far, and the key whose value comes
+-- an open array and its values so far; an open object, its pairs so far, and the key whose value
+-- comes
 pub data Frame : Type 0 where
   open_array : List Datum → Frame
   open_object : List (List ℕ × Datum) → Option (List ℕ) → Frame

@@ -66,8 +66,8 @@ pub data Event : Type 0 where
   a_number : Numeral → Event
   a_string : List ℕ → Event
 
--- what may come: a value, or, where the flag is set, the end of an array; a key, or, where it is set,
--- the end of an object; the colon behind a key; what follows a value
+-- what may come: a value, or, where the flag is set, the end of an array; a key, or, where it is
+-- set, the end of an object; the colon behind a key; what follows a value
 pub data Mode : Type 0 where
   value : Bool → Mode
   key : Bool → Mode
@@ -85,8 +85,8 @@ Events = Option (List Event)
 abbrev pub emit : Event → Events → Events
 emit e r = option_map (λ es. e ∷ es) r
 
--- what a token does: there is no text; the text ends; or, with an event or without, it goes on with a
--- mode and open brackets
+-- what a token does: there is no text; the text ends; or, with an event or without, it goes on
+-- with a mode and open brackets
 pub data Turn : Type 0 where
   stops : Turn
   ends : Turn

@@ -46,7 +46,8 @@ frac_at (b ∷ l) =
 abbrev pub exp_at : List ℕ → Part (Option (Sign × List ℕ))
 exp_at [] = Some (None, [])
 exp_at (b ∷ l) =
-    if b == 101 || b == 69 then option_map (λ p. (Some ((sign_at l).0, p.0), p.1)) (some_digits_at (sign_at l).1)
+    if b == 101 || b == 69
+    then option_map (λ p. (Some ((sign_at l).0, p.0), p.1)) (some_digits_at (sign_at l).1)
     else Some (None, b ∷ l)
 
 unfoldable pub numeral_at : List ℕ → Part Numeral
