@@ -116,6 +116,7 @@ impl Moment {
         ensures value { result ≡ self.now.date }
         ensures exists { IsDateTime self.now }
     {
+        // It tells the proof that there is such a date.
         let _year = self.day.year();
         self.day
     }
