@@ -1,5 +1,5 @@
 -- What the lines of an input read as, one by one, is what a reader computes. For other crates too.
-use Rattle.std.specs.Prelude.{◌≡◌, ℕ, List, [], ◌∷◌, refl}
+use Rattle.std.specs.Prelude.{◌≡◌, List, [], ◌∷◌, refl}
 use Rattle.std.proofs.Common.{◌∙◌, ap}
 use Rattle.json_text.specs.inside.Build.{reading}
 use Rattle.json_text.proofs.ReadingLemmas.{reading_exact}

@@ -1,4 +1,4 @@
-pub mod Parts
+pub mod Uncons
 pub mod TokenSteps
 pub mod NumberSteps
 pub mod StringSteps

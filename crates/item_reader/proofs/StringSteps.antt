@@ -14,7 +14,7 @@ use Rattle.json_text.specs.inside.Scan.{Part, string_at, after_bytes}
 use Rattle.json_text.specs.inside.Machine.{characters, bad, string_token}
 use Rattle.json_text.proofs.SpellLemmas.{after_none, after_after, stretch_spelled, quote_spelled, end_spelled, control_spelled}
 use Rattle.item_reader.specs.Tokens.{uncons, begins}
-use Rattle.item_reader.proofs.Parts.{cons_of, nil_of}
+use Rattle.item_reader.proofs.Uncons.{cons_of, nil_of}
 
 -- ---- a stretch of bytes that stand for themselves
 

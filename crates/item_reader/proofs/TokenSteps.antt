@@ -7,7 +7,7 @@ use Rattle.json_text.specs.inside.Scan.{string_at, numeral_at}
 use Rattle.json_text.specs.inside.Machine.{end, token_from, token_at, string_token, numeral_token}
 use Rattle.item_reader.specs.declared.token.Token.TheVariants.{OpenArray, CloseArray, OpenObject, CloseObject, Comma, Colon}
 use Rattle.item_reader.specs.Tokens.{IsPart, is_mark, uncons, begins}
-use Rattle.item_reader.proofs.Parts.{cons_of, nil_of}
+use Rattle.item_reader.proofs.Uncons.{cons_of, nil_of}
 
 space_first : (b : ℕ) (l : List ℕ) → is_space b ≡ true → token_at (b ∷ l) ≡ token_at l
 unfolding token_at

@@ -3,7 +3,7 @@ use Rattle.std.proofs.Common.{◌≡◌, ◌-◌, ◌<◌, ◌≤◌, ℕ, List,
 use Rattle.std.proofs.Math.Seq.{take-length}
 use Rattle.json_text.specs.inside.Scan.{string_at}
 use Rattle.json_text.specs.declared.escapes.Spelled.{Spelled}
-use Rattle.json_text.specs.Escapes.{Escape, IsSound, Begins, escape_of}
+use Rattle.json_text.specs.Escapes.{IsSound, Begins, escape_of}
 use Rattle.json_text.proofs.SpellLemmas.{Spells, escape_spells}
 
 pub front_is : (l : List ℕ) → 0 < length l → l ≡ slice_index_or l 0 0 ∷ take (length l - 1) (drop 1 l)

@@ -1,12 +1,11 @@
 -- No value that is built is too deep, and the keys of each object differ.
-use Rattle.std.specs.Prelude.{◌≡◌, ◌≢◌, ℕ, ◌<◌, ◌≤◌, ◌+◌, nat_lt, List, [], ◌∷◌, ◌++◌, length, Some, None, refl}
+use Rattle.std.specs.Prelude.{◌≡◌, ℕ, ◌<◌, ◌≤◌, ◌+◌, nat_lt, List, [], ◌∷◌, ◌++◌, length, Some, None, refl}
 use Rattle.std.specs.Str.{bytes_eq}
-use Rattle.std.proofs.Common.{sym, arith, inl, inr}
-use Rattle.std.proofs.lemmas.Bool.{cond_both, ltb-true, both_ways}
-use Rattle.std.proofs.lemmas.Slice.Eq.{bytes_eq-Decides}
+use Rattle.std.proofs.Common.{arith, inl, inr}
+use Rattle.std.proofs.lemmas.Bool.{cond_both, ltb-true}
 use Rattle.num_fixed.specs.declared.number.Number.{Number}
 use Rattle.num_fixed.specs.declared.number.Number.TheVariants.{Int, Dec}
-use Rattle.item_tree.specs.Datum.{Datum, null, boolean, text, array_of_list, object_of_pairs, depth, data_depth, members_depth, values, members, NoneHas, KeysDiffer}
+use Rattle.item_tree.specs.Datum.{Datum, null, boolean, text, array_of_list, object_of_pairs, depth, data_depth, members_depth, values, members, KeysDiffer}
 use Rattle.item_tree.specs.Made.{HasDeep, HasDeepPair}
 use Rattle.item_tree.proofs.Puts.{keys_put}
 use Rattle.json_text.specs.Meaning.{put, put_all, number_datum}

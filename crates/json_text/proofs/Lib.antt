@@ -15,7 +15,6 @@ pub mod SoundItems
 pub mod UndatedItems
 pub mod Utf8Lemmas
 pub mod LoopLemmas
-pub mod NumeralTexts
 pub mod SpellLemmas
 pub mod EscapeLemmas
 pub mod DecimalDigits

@@ -7,6 +7,7 @@ use Rattle.std.proofs.lemmas.Int.{ints}
 use Rattle.std.proofs.lemmas.List.{length-replicate}
 use Rattle.std.proofs.Math.Nat.{mul_assoc}
 use Rattle.num_fixed.specs.Bounds.{NumberInBounds}
+use Rattle.num_fixed.specs.Fronts.{IsMinusOrNone}
 use Rattle.num_fixed.specs.Nearest.{IsNearestNatural}
 use Rattle.num_fixed.specs.Numeral.{Sign, none, minus, Numeral, AreDigits, IsSign, IsUnitsOf, Says, is_minus, number_of}
 use Rattle.num_fixed.specs.Signs.{with_sign}
@@ -18,7 +19,7 @@ use Rattle.num_fixed.proofs.Reading.{units_read, signed_in_bounds}
 use Rattle.num_fixed.proofs.ScaleLemmas.{exact}
 use Rattle.item_tree.specs.Datum.{Datum, integer, decimal, IsWhole, IsUnits}
 use Rattle.item_tree.specs.ItemText.{without_last_zeros, units_text, decimal_text}
-use Rattle.json_text.specs.Json.{IsInt, IsMinusOrNone, IsJsonNumber}
+use Rattle.json_text.specs.Json.{IsInt, IsJsonNumber}
 use Rattle.json_text.specs.Meaning.{NumberGives, number_datum}
 use Rattle.json_text.specs.Plain.{plain_decimal}
 use Rattle.json_text.proofs.NumeralLemmas.{int_some}
@@ -57,10 +58,12 @@ integer_says s n h =
     record {
       numeral = record { sign = sign_of s; int = digits_of n; frac = None; exp = None };
       written = λ r. record {
-        numeral = record { behind_int = r; behind_frac = r; sign = sign_written s (digits_of n) (digits_of n ++ r) r refl; int = k.digits; frac = refl; exp = refl; some = int_some (digits_of n) [] k.int };
-        sign = sign_allowed s;
+        front = record {
+          numeral = record { behind_int = r; behind_frac = r; sign = sign_written s (digits_of n) (digits_of n ++ r) r refl; int = k.digits; frac = refl; exp = refl; some = int_some (digits_of n) [] k.int };
+          sign = sign_allowed s;
+          frac = tt;
+        };
         int = k.int;
-        frac = tt;
       };
       says = (refl, refl, sym (ap (λ b. with_sign b (number_of 0 (digits_of n))) (sign_same s) ∙ ap (with_sign s) k.value));
     }
@@ -83,18 +86,20 @@ pointed_says s units front back k =
     record {
       numeral = record { sign = sign_of s; int = front; frac = Some back; exp = None };
       written = λ r. record {
-        numeral = record {
-          behind_int = 46 ∷ (back ++ r);
-          behind_frac = r;
-          sign = sign_written s (front ++ (46 ∷ back)) (front ++ (46 ∷ (back ++ r))) r (append_assoc front (46 ∷ back) r);
-          int = k.digits;
-          frac = (k.more, refl);
-          exp = refl;
-          some = int_some front back k.int;
+        front = record {
+          numeral = record {
+            behind_int = 46 ∷ (back ++ r);
+            behind_frac = r;
+            sign = sign_written s (front ++ (46 ∷ back)) (front ++ (46 ∷ (back ++ r))) r (append_assoc front (46 ∷ back) r);
+            int = k.digits;
+            frac = (k.more, refl);
+            exp = refl;
+            some = int_some front back k.int;
+          };
+          sign = sign_allowed s;
+          frac = k.some;
         };
-        sign = sign_allowed s;
         int = k.int;
-        frac = k.some;
       };
       says = (inl refl, subst (λ b. IsUnitsOf b (front ++ back) (length back) None (with_sign s units)) (sym (sign_same s)) (units_read s n 0 d units near));
     }

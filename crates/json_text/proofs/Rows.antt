@@ -7,8 +7,9 @@ use Rattle.item_tree.specs.Datum.{Datum, null, boolean, integer, decimal, text, 
 use Rattle.item_tree.specs.JsonString.{code_unit}
 use Rattle.item_tree.specs.declared.code.Code.TheVariants.{JNDY0021, PJDY0002, PJDY0004}
 use Rattle.json_text.specs.Line.{Reading, blank, item, fault, ReadsAs}
-use Rattle.json_text.specs.inside.Scan.{digits_at, numeral_at, pieces_at}
+use Rattle.json_text.specs.inside.Scan.{numeral_at, pieces_at}
 use Rattle.json_text.specs.inside.Machine.{token_from, token_at, run_for, run}
+use Rattle.num_fixed.specs.Fronts.{fraction_len, exponent_len, whole_end, fraction_end, number_end, numeral_front}
 use Rattle.num_fixed.specs.Values.{near_natural, near, units_said}
 use Rattle.json_text.specs.inside.Build.{reading}
 use Rattle.json_text.proofs.ReadingLemmas.{reads}
@@ -56,7 +57,7 @@ number_rows =
     ∷ []
 
 numbers_read : AllRead number_rows
-unfolding number_rows no_json reading run run_for token_at token_from numeral_at digits_at near_natural near units_said
+unfolding number_rows no_json reading run run_for token_at token_from numeral_at numeral_front fraction_len exponent_len whole_end fraction_end number_end near_natural near units_said
 numbers_read = all_read number_rows refl
 
 string_rows : List Row
@@ -79,7 +80,7 @@ string_rows =
     ∷ []
 
 strings_read : AllRead string_rows
-unfolding string_rows no_json reading run run_for token_at token_from pieces_at code_unit chars is_utf8 encode numeral_at digits_at
+unfolding string_rows no_json reading run run_for token_at token_from pieces_at code_unit chars is_utf8 encode numeral_at numeral_front fraction_len exponent_len whole_end fraction_end number_end
 strings_read = all_read string_rows refl
 
 text_rows : List Row
@@ -105,7 +106,7 @@ text_rows =
     ∷ []
 
 texts_read : AllRead text_rows
-unfolding text_rows no_json reading run run_for token_at token_from pieces_at chars is_utf8 encode numeral_at digits_at near_natural near units_said
+unfolding text_rows no_json reading run run_for token_at token_from pieces_at chars is_utf8 encode numeral_at numeral_front fraction_len exponent_len whole_end fraction_end number_end near_natural near units_said
 texts_read = all_read text_rows refl
 
 nested : ℕ → Datum
@@ -122,5 +123,5 @@ deep_rows =
     ∷ []
 
 deep_read : AllRead deep_rows
-unfolding deep_rows nested no_json reading run run_for token_at token_from numeral_at digits_at near_natural near units_said
+unfolding deep_rows nested no_json reading run run_for token_at token_from numeral_at numeral_front fraction_len exponent_len whole_end fraction_end number_end near_natural near units_said
 deep_read = all_read deep_rows refl

@@ -50,7 +50,7 @@ exp_takes (Some x) l r h =
 
 number_takes : (n : Numeral) (l r : List ℕ) → IsJsonNumber n l r → length r < length l
 number_takes n l r h =
-    let k = h.numeral in
+    let k = h.front.numeral in
     let s = sign_takes n.sign l (n.int ++ k.behind_int) k.sign in
     let f = frac_takes n.frac k.behind_int k.behind_frac k.frac in
     let x = exp_takes n.exp k.behind_frac r k.exp in

@@ -180,7 +180,7 @@ exp_front (Some x) l r h = joined l h.0 r (letter_front l h.0 h.1) (joined h.0 (
 
 number_front : (n : Numeral) (l r : List ℕ) → IsJsonNumber n l r → Utf8Front l r
 number_front n l r h =
-    let k = h.numeral in let m = n.int ++ k.behind_int in
+    let k = h.front.numeral in let m = n.int ++ k.behind_int in
     joined l m r (sign_front n.sign l m k.sign) (joined m k.behind_int r (ascii_front n.int m k.behind_int (digits_ascii n.int k.int) refl) (joined k.behind_int k.behind_frac r (frac_front n.frac k.behind_int k.behind_frac k.frac) (exp_front n.exp k.behind_frac r k.exp)))
 
 -- ---- values

@@ -1,7 +1,8 @@
 -- Texts of JSON (RFC 8259), with one case for each of its productions.
 -- `Rule x l r` says that the bytes of l before its rest r are written by the rule and say x.
-use Rattle.std.specs.Prelude.{◌≡◌, ◌⊎◌, ◌<◌, ℕ, Bool, true, false, ◌||◌, ◌==◌, List, [], ◌∷◌, ◌++◌, length, Option, Some, None, codes}
-use Rattle.num_fixed.specs.Numeral.{Sign, none, plus, minus, Numeral, IsNumeral}
+use Rattle.std.specs.Prelude.{◌≡◌, ◌⊎◌, ℕ, Bool, true, false, ◌||◌, ◌==◌, List, [], ◌∷◌, ◌++◌, codes}
+use Rattle.num_fixed.specs.Fronts.{IsFront}
+use Rattle.num_fixed.specs.Numeral.{Numeral}
 use Rattle.item_tree.specs.JsonString.{IsString}
 use Rattle.json_text.specs.Raw.{Raw, raw_null, raw_boolean, raw_number, raw_string, raw_array, raw_object, Raws, no_raws, raw_value, Fields, no_fields, field}
 
@@ -30,23 +31,11 @@ IsInt [] = ⊥
 IsInt (d ∷ []) = Unit {0}
 IsInt (d ∷ e ∷ ds) = (d == 48) ≡ false
 
-abbrev pub IsMinusOrNone : Sign → Type 0
-IsMinusOrNone none = Unit {0}
-IsMinusOrNone plus = ⊥
-IsMinusOrNone minus = Unit {0}
-
--- frac: a digit or more behind the point, if there is one
-abbrev pub HasDigits : Option (List ℕ) → Type 0
-HasDigits None = Unit {0}
-HasDigits (Some ds) = 0 < length ds
-
--- a numeral, without what JSON refuses: a plus in front, a zero before other digits, a point with
--- no digit at a side of it
+-- what num_fixed has as a number at the front, which has neither a plus in front nor a point that no
+-- digit follows; JSON wants an int in it
 pub record IsJsonNumber (n : Numeral) (l r : List ℕ) : Type 0 where
-  pub numeral : IsNumeral n l r
-  pub sign : IsMinusOrNone n.sign
+  pub front : IsFront n l r
   pub int : IsInt n.int
-  pub frac : HasDigits n.frac
 
 -- ---- section 3, values; section 4, objects; section 5, arrays (section 7, strings, is `IsString`)
 

@@ -1,6 +1,6 @@
 -- How a reader builds an item from events, and so what it makes of a line. Nothing here is part
 -- of what a line reads as: `laws` says that it is the same.
-use Rattle.std.specs.Prelude.{ℕ, nat_lt, Bool, false, List, [], ◌∷◌, ◌++◌, length, Option, Some, None, option_map, Ok, Err, if◌then◌else◌}
+use Rattle.std.specs.Prelude.{ℕ, nat_lt, false, List, [], ◌∷◌, ◌++◌, length, Option, Some, None, option_map, Ok, Err, if◌then◌else◌}
 use Rattle.num_fixed.specs.Values.{number_in_bounds, said}
 use Rattle.num_fixed.specs.declared.number.Number.{Number}
 use Rattle.item_tree.specs.Datum.{Datum, null, boolean, text, array_of_list, object_of_pairs}

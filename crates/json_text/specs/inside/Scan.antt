@@ -1,61 +1,28 @@
 -- How a reader takes a number or a string from the front of a text.
-use Rattle.std.specs.Prelude.{ℕ, Bool, true, false, ◌||◌, not, ◌==◌, nat_lt, List, [], ◌∷◌, ◌++◌, length, Option, Some, None, option_map, if◌then◌else◌}
-use Rattle.std.specs.Char.{is_ascii_digit}
-use Rattle.num_fixed.specs.Numeral.{Sign, none, plus, minus, Numeral}
+use Rattle.std.specs.Prelude.{ℕ, Bool, true, false, not, ◌==◌, List, [], ◌∷◌, ◌++◌, Option, Some, None, option_map, if◌then◌else◌}
+use Rattle.num_fixed.specs.Fronts.{numeral_front, behind_front, whole_at}
+use Rattle.num_fixed.specs.Numeral.{Numeral}
 use Rattle.item_tree.specs.JsonString.{Piece, byte, unit, is_raw, short_escape, code_unit, content}
 
 -- something and the rest behind it, if it is there
 abbrev pub Part : Type 0 → Type 0
 Part A = Option (A × List ℕ)
 
-abbrev pub and_then : {A B : Type 0} → Part A → (A → List ℕ → Part B) → Part B
-and_then None f = None
-and_then (Some p) f = f p.0 p.1
-
 -- ---- numbers
-
--- the digits at the front, and what is behind them
-unfoldable pub digits_at : List ℕ → List ℕ × List ℕ
-digits_at [] = ([], [])
-digits_at (d ∷ l) = if is_ascii_digit d then (d ∷ (digits_at l).0, (digits_at l).1) else ([], d ∷ l)
-
-abbrev pub some_digits_at : List ℕ → Part (List ℕ)
-some_digits_at l = if nat_lt 0 (length (digits_at l).0) then Some (digits_at l) else None
-
-abbrev pub minus_at : List ℕ → Sign × List ℕ
-minus_at [] = (none, [])
-minus_at (b ∷ l) = if b == 45 then (minus, l) else (none, b ∷ l)
-
-abbrev pub sign_at : List ℕ → Sign × List ℕ
-sign_at [] = (none, [])
-sign_at (b ∷ l) = if b == 43 then (plus, l) else if b == 45 then (minus, l) else (none, b ∷ l)
 
 abbrev pub is_int : List ℕ → Bool
 is_int [] = false
 is_int (d ∷ []) = true
 is_int (d ∷ e ∷ ds) = not (d == 48)
 
-abbrev pub int_at : List ℕ → Part (List ℕ)
-int_at l = if is_int (digits_at l).0 then Some (digits_at l) else None
+-- of the longest number at the front JSON refuses one with no digit before the point, or a zero
+-- before other digits there
+abbrev pub is_json_front : List ℕ → Bool
+is_json_front l = is_int (whole_at l)
 
-abbrev pub frac_at : List ℕ → Part (Option (List ℕ))
-frac_at [] = Some (None, [])
-frac_at (b ∷ l) =
-    if b == 46 then option_map (λ p. (Some p.0, p.1)) (some_digits_at l) else Some (None, b ∷ l)
-
-abbrev pub exp_at : List ℕ → Part (Option (Sign × List ℕ))
-exp_at [] = Some (None, [])
-exp_at (b ∷ l) =
-    if b == 101 || b == 69
-    then option_map (λ p. (Some ((sign_at l).0, p.0), p.1)) (some_digits_at (sign_at l).1)
-    else Some (None, b ∷ l)
-
+-- a point or a letter e that no digit follows is left behind the number, and begins no token there
 unfoldable pub numeral_at : List ℕ → Part Numeral
-numeral_at l =
-    and_then (int_at (minus_at l).1) (λ ds r.
-    and_then (frac_at r) (λ f r2.
-    and_then (exp_at r2) (λ e r3.
-    Some (record { sign = (minus_at l).0; int = ds; frac = f; exp = e }, r3))))
+numeral_at l = if is_json_front l then Some (numeral_front l, behind_front l) else None
 
 -- ---- strings
 

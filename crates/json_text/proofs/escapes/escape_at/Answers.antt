@@ -1,4 +1,4 @@
-use Rattle.std.proofs.Common.{◌≡◌, ◌<◌, ◌≤◌, ◌∷◌, ℕ, List, Option, Some, None, length, sym, subst, IfSome, IfNone, arith}
+use Rattle.std.proofs.Common.{◌≡◌, ◌∷◌, None, sym, subst, IfSome, IfNone}
 use Rattle.json_text.specs.inside.Scan.{string_at}
 use Rattle.json_text.specs.Escapes.{Begins}
 use Rattle.json_text.proofs.EscapeLemmas.{front_is, nothing_escaped, escape_begins, no_escape}
