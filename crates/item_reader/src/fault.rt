@@ -1,7 +1,7 @@
 ghost use Rattle.std.specs.Prelude.{◌≡◌};
 ghost use Rattle.item_reader.specs.Faults.{code_of};
 
-use item_tree::Code;
+use item_tree::{Code, NoMemory};
 
 /// Why a line gave no item.
 #[derive(Clone, Copy, Debug, PartialEq, Eq)]
@@ -28,5 +28,16 @@ impl LineFault {
             LineFault::TooDeep => Some(Code::PJDY0002),
             LineFault::NoMemory => None,
         }
+    }
+}
+
+impl From<NoMemory> for LineFault {
+    ghost use Rattle.std.specs.Prelude.{◌≡◌};
+    ghost use Rattle.item_reader.specs.declared.fault.LineFault.TheVariants as line;
+
+    ghost from_gives = { λ _ e. e ≡ line.NoMemory };
+
+    fn from(_e: NoMemory) -> LineFault {
+        LineFault::NoMemory
     }
 }

@@ -55,14 +55,13 @@ pub fn read_item(alloc: Global, line: &[u8]) -> Result<Option<Item>, LineFault>
     if is_blank(line) {
         return Ok(None);
     }
-    match read_text(alloc, line) {
-        Err(NoMemory) => Err(LineFault::NoMemory),
-        Ok(None) => Err(LineFault::NotJson),
-        Ok(Some(build)) => match build.into_progress() {
-            Progress::Done(item) => Ok(Some(item)),
-            Progress::Troubled(Trouble::NumberOut) => Err(LineFault::NumberOut),
-            Progress::Troubled(Trouble::TooDeep) => Err(LineFault::TooDeep),
-            Progress::Open => unreachable!(),
-        },
+    let Some(build) = read_text(alloc, line)? else {
+        return Err(LineFault::NotJson);
+    };
+    match build.into_progress() {
+        Progress::Done(item) => Ok(Some(item)),
+        Progress::Troubled(Trouble::NumberOut) => Err(LineFault::NumberOut),
+        Progress::Troubled(Trouble::TooDeep) => Err(LineFault::TooDeep),
+        Progress::Open => unreachable!(),
     }
 }
