@@ -1,7 +1,7 @@
--- Every query has one front, and every command line one answer.
-use Rattle.std.proofs.Common.{◌≡◌, ◌⊎◌, inl, inr, ◌<◌, ◌≤◌, ℕ, zero, suc, List, ◌++◌, length, take, Bool, true, false, Option, None, Some, Ok, refl, sym, ap, ◌∙◌, subst, arith, codes}
+-- Every query has one front.
+use Rattle.std.proofs.Common.{◌≡◌, ◌⊎◌, inl, inr, ◌<◌, ◌≤◌, ℕ, zero, suc, List, length, take, Bool, true, false, Option, None, Some, Ok, refl, sym, ap, ◌∙◌, subst, arith}
 use Rattle.std.specs.Prelude.{IfSome}
-use Rattle.std.specs.Str.{IsUtf8, IsValidUpTo, is_utf8, encode_utf8_all}
+use Rattle.std.specs.Str.{IsUtf8, IsValidUpTo, is_utf8}
 use Rattle.std.proofs.Math.Nat.{eq-or-lt_of_le}
 use Rattle.std.proofs.lemmas.Bool.{cases_lt, cases_order}
 use Rattle.std.proofs.lemmas.List.{take_all}
@@ -9,7 +9,6 @@ use Rattle.std.proofs.lemmas.Str.{IsUtf8-nil, IsUtf8-from_is_utf8, is_utf8-from_
 use Rattle.item_tree.specs.declared.code.Code.{Code}
 use Rattle.item_tree.specs.declared.code.Code.TheVariants.{XPST0003, PJST0005}
 use Rattle.item_reader.specs.Lines.{without_mark}
-use Rattle.outside.specs.World.{World, file_of}
 use Rattle.query_lexer.specs.Lexes.{Tokens, Refused}
 use Rattle.query_lexer.specs.declared.token.Token.{Token}
 use Rattle.query_grammar.specs.Laws.{IsDecided}
@@ -26,12 +25,9 @@ use Rattle.static_rules.specs.Outcomes.{CompilesTo}
 use Rattle.static_rules.specs.Refusals.{refusal}
 use Rattle.static_rules.specs.Rules.{code_of}
 use Rattle.static_rules.specs.declared.rules.Refusal.{Refusal}
-use Rattle.rumble_run.specs.Answer.{Answer, IsAnswer, IsOfQuery, IsOfCommand, IsOfFile, OfAnswer, of_front, says, usage}
-use Rattle.rumble_run.specs.Command.{command_of}
+use Rattle.rumble_run.specs.Answer.{says}
 use Rattle.rumble_run.specs.Front.{Front, IsFront, IsFrontBehindMark, IsFrontOfText, IsFrontOfTokens, BreaksAt, refused_at, max_length, front_by, static_front}
-use Rattle.rumble_run.specs.Laws.{HasOneFront, HasOneAnswer}
-use Rattle.rumble_run.specs.declared.status.Status.TheVariants.{NoQuery}
-use Rattle.rumble_run.specs.declared.words.Task.{Task}
+use Rattle.rumble_run.specs.Laws.{HasOneFront}
 use Rattle.rumble_run.proofs.Wording.{words_of_text}
 
 -- ---- where bytes stop being UTF-8
@@ -95,7 +91,7 @@ front_behind_mark bytes = by (is_utf8 bytes) refl
     by true e = let f : (front : Front) × IsFrontOfText bytes front = front_of_text bytes (IsUtf8-from_is_utf8 bytes e) in (f.0, inr (IsUtf8-from_is_utf8 bytes e, f.1))
     by false e = let p : (place : ℕ) × BreaksAt bytes place = breaks bytes e in (refused_at XPST0003 p.0, inl (p.0, p.1, refl))
 
-front_is : (query : List ℕ) → (front : Front) × IsFront query front
+pub front_is : (query : List ℕ) → (front : Front) × IsFront query front
 front_is query = by (cases_lt max_length (length query))
   where
     by : (max_length < length query) ⊎ (length query ≤ max_length) → (front : Front) × IsFront query front
@@ -168,7 +164,7 @@ one_behind_mark bytes front other (inl (p, b, e)) (inr (u, t)) = absurd (not_utf
 one_behind_mark bytes front other (inr (u, t)) (inl (p, b, e)) = absurd (not_utf8 bytes p b u)
 one_behind_mark bytes front other (inr (u, t)) (inr (v, s)) = one_of_text bytes front other t s
 
-only_front : (query : List ℕ) (front other : Front) → IsFront query front → IsFront query other → front ≡ other
+pub only_front : (query : List ℕ) (front other : Front) → IsFront query front → IsFront query other → front ≡ other
 only_front query front other (inl (l, e)) (inl (m, f)) = e ∙ sym f
 only_front query front other (inl (l, e)) (inr (m, f)) = absurd (omega (arith, l, m))
 only_front query front other (inr (m, f)) (inl (l, e)) = absurd (omega (arith, l, m))
@@ -176,40 +172,3 @@ only_front query front other (inr (l, e)) (inr (m, f)) = one_behind_mark (withou
 
 pub one_front : (query : List ℕ) → HasOneFront query
 one_front query = record { some = front_is query; only = only_front query }
-
--- ---- the answer
-
-answer_of_query : (task : Task) (world : World) (query : List ℕ) → (answer : Answer) × IsOfQuery task world query answer
-answer_of_query task world query = let f : (front : Front) × IsFront query front = front_is query in (of_front task (without_mark query) world f.0, (f.0, f.1, refl))
-
-answer_of_file : (task : Task) (name : List ℕ) (world : World) (file : Option (List ℕ)) → (answer : Answer) × IsOfFile task name world file answer
-answer_of_file task name world None = (says NoQuery (codes "no query " ++ encode_utf8_all name), refl)
-answer_of_file task name world (Some query) = answer_of_query task world query
-
-answer_of_command : (world : World) (command : Option (Task × List ℕ)) → (answer : Answer) × IsOfCommand world command answer
-answer_of_command world None = (usage, refl)
-answer_of_command world (Some command) = answer_of_file command.0 command.1 world (file_of world command.1)
-
-only_of_file : (task : Task) (name : List ℕ) (world : World) (file : Option (List ℕ)) (a b : Answer) → IsOfFile task name world file a → IsOfFile task name world file b → a ≡ b
-only_of_file task name world None a b e f = e ∙ sym f
-only_of_file task name world (Some query) a b (front, is, e) (other, it, f) = e ∙ ap (of_front task (without_mark query) world) (only_front query front other is it) ∙ sym f
-
-only_of_command : (world : World) (command : Option (Task × List ℕ)) (a b : Answer) → IsOfCommand world command a → IsOfCommand world command b → a ≡ b
-only_of_command world None a b e f = e ∙ sym f
-only_of_command world (Some command) a b is it = only_of_file command.0 command.1 world (file_of world command.1) a b is it
-
-pub one_answer : (words : List (List ℕ)) (world : World) → HasOneAnswer words world
-unfolding IsAnswer
-one_answer words world = record { some = answer_of_command world (command_of words); only = only_of_command world (command_of words) }
-
--- ---- what holds of the answer
-
--- of an ending that is the answer, what holds of it
-pub told : (world : Option World) (words : List (List ℕ)) (a : Answer) (Holds : Answer → Type 0) → IfSome world (λ w. IsAnswer words w a) → Holds a → OfAnswer world words Holds
-told None words a Holds is h = tt
-told (Some w) words a Holds is h = λ b it. subst Holds ((one_answer words w).only a b is it) h
-
--- what holds of every answer
-pub untold : (world : Option World) (words : List (List ℕ)) (Holds : Answer → Type 0) → ((a : Answer) → Holds a) → OfAnswer world words Holds
-untold None words Holds h = tt
-untold (Some w) words Holds h = λ b it. h b

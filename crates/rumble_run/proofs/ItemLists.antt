@@ -15,7 +15,7 @@ use Rattle.json_text.specs.Line.{blank, item, fault, is_blank}
 use Rattle.json_text.specs.inside.Build.{reading}
 use Rattle.item_tree.specs.declared.item.Item.{Item}
 use Rattle.item_tree.specs.Item.{datum, datums}
-use Rattle.rumble_run.specs.Cuts.{lines_of}
+use Rattle.rumble_run.specs.inside.Cuts.{lines_of}
 
 -- the items of lines without their offsets
 abbrev pub items_of_cut : List (List ℕ) → Result (List Datum) Code

@@ -3,8 +3,7 @@
 use Rattle.std.specs.Prelude.{◌≡◌, ℕ, List, [], ◌∷◌, ◌++◌, Option, None, Some, IfSome, Result, Ok, Err, codes}
 use Rattle.std.specs.Fmt.{decimal}
 use Rattle.std.specs.Str.{encode_utf8_all}
-use Rattle.item_tree.specs.declared.code.Code.{Code}
-use Rattle.item_tree.specs.declared.code.Code.TheVariants.{FODC0002, PJST0099}
+use Rattle.item_tree.specs.declared.code.Code.TheVariants.{PJST0099}
 use Rattle.item_tree.specs.declared.fault.Fault.{Fault}
 use Rattle.item_tree.specs.declared.fault.Spot.{Spot}
 use Rattle.item_tree.specs.Codes.{code_text}
@@ -12,11 +11,11 @@ use Rattle.item_tree.specs.Datum.{Datum}
 use Rattle.item_tree.specs.Faults.{fault_at}
 use Rattle.item_tree.specs.ItemText.{item_text}
 use Rattle.item_reader.specs.Lines.{without_mark}
-use Rattle.item_reader.specs.inside.Items.{items_of}
 use Rattle.outside.specs.World.{World, file_of}
 use Rattle.query_tree.specs.Compiled.{BoundTrees}
-use Rattle.query_grammar.specs.Nodes.{Name}
-use Rattle.rumble_run.specs.Built.{input_of}
+use Rattle.query_meaning.specs.Inputs.{InputsGive}
+use Rattle.query_meaning.specs.Outcome.{Outcome}
+use Rattle.rumble_run.specs.Built.{Call, call_of}
 use Rattle.rumble_run.specs.Command.{command_of}
 use Rattle.rumble_run.specs.Front.{Front, IsFront}
 use Rattle.rumble_run.specs.Place.{place_text}
@@ -71,38 +70,36 @@ output_of (x ∷ xs) = item_text x ++ 10 ∷ output_of xs
 abbrev pub prints : List Datum → Answer
 prints items = writes (output_of items)
 
--- what `json-lines` at this place gives, by the bytes of its input
-abbrev pub at_place : ℕ → Result (List Datum) Code → Result (List Datum) Fault
-at_place place (Ok items) = Ok items
-at_place place (Err code) = Err (fault_at code place)
+-- what a query's value comes to
+abbrev pub of_outcome : List ℕ → Outcome → Answer
+of_outcome text (Ok items) = prints items
+of_outcome text (Err fault) = raised text fault
 
-abbrev pub input_items : ℕ → Option (List ℕ) → Result (List Datum) Fault
-input_items place None = at_place place (Err FODC0002)
-input_items place (Some bytes) = at_place place (items_of bytes)
+-- `run` is not built yet for such a query
+abbrev pub unbuilt : List ℕ → Answer
+unbuilt text = refused text (fault_at PJST0099 0)
 
-abbrev pub of_result : List ℕ → Result (List Datum) Fault → Answer
-of_result text (Ok items) = prints items
-of_result text (Err fault) = raised text fault
+-- a query that is run: what its call of `json-lines` gives
+abbrev pub IsOfRun : List ℕ → World → Option Call → Answer → Type 0
+IsOfRun text world None answer = answer ≡ unbuilt text
+IsOfRun text world (Some call) answer =
+    (outcome : Outcome)
+    × InputsGive world call.names call.place outcome × (answer ≡ of_outcome text outcome)
 
--- a query that is run: its input's items, or it is not built yet
-abbrev pub of_run : List ℕ → World → Option (Name × ℕ) → Answer
-of_run text world None = refused text (fault_at PJST0099 0)
-of_run text world (Some input) = of_result text (input_items input.1 (file_of world input.0))
-
-abbrev pub of_tree : Task → List ℕ → World → BoundTrees → Answer
-of_tree Check text world tree = accepted
-of_tree Run text world tree = of_run text world (input_of tree)
+abbrev pub IsOfTree : Task → List ℕ → World → BoundTrees → Answer → Type 0
+IsOfTree Check text world tree answer = answer ≡ accepted
+IsOfTree Run text world tree answer = IsOfRun text world (call_of tree) answer
 
 -- a query with this front: refused, or the task is done
-abbrev pub of_front : Task → List ℕ → World → Front → Answer
-of_front task text world (Ok tree) = of_tree task text world tree
-of_front task text world (Err fault) = refused text fault
+abbrev pub IsOfFront : Task → List ℕ → World → Front → Answer → Type 0
+IsOfFront task text world (Ok tree) answer = IsOfTree task text world tree answer
+IsOfFront task text world (Err fault) answer = answer ≡ refused text fault
 
 -- the answer to a query of these bytes
 abbrev pub IsOfQuery : Task → World → List ℕ → Answer → Type 0
 IsOfQuery task world query answer =
-    (front : Front) × IsFront query front
-    × (answer ≡ of_front task (without_mark query) world front)
+    (front : Front)
+    × IsFront query front × IsOfFront task (without_mark query) world front answer
 
 abbrev pub IsOfFile : Task → List ℕ → World → Option (List ℕ) → Answer → Type 0
 IsOfFile task name world None answer =

@@ -8,31 +8,35 @@ use Rattle.query_tree.specs.Plain.{Form, tree_node, call_form}
 use Rattle.query_tree.specs.Modules.{PlainVariable, PlainFunction}
 use Rattle.query_tree.specs.Bound.{BoundTree}
 use Rattle.query_tree.specs.Compiled.{BoundTrees}
-use Rattle.query_grammar.specs.Nodes.{Name}
 
--- the input that a target reads
-abbrev pub input_of_target : Target → Option Name
-input_of_target (Lines name) = Some name
-input_of_target _ = None
+-- a call of `json-lines`: the names of its inputs, and its place
+pub record Call : Type 0 where
+  pub names : List (List ℕ)
+  pub place : ℕ
 
--- the input that an expression reads, where it is one call of `json-lines`
-abbrev pub input_of_form : Form Slot Target SeqType → Option Name
-input_of_form (call_form function arguments) = input_of_target function
-input_of_form _ = None
+-- the names of the inputs that a target reads
+abbrev pub names_of_target : Target → Option (List (List ℕ))
+names_of_target (Lines names) = Some names
+names_of_target _ = None
 
-abbrev pub with_place : ℕ → Option Name → Option (Name × ℕ)
+-- those that an expression reads, where it is one call of `json-lines`
+abbrev pub names_of_form : Form Slot Target SeqType → Option (List (List ℕ))
+names_of_form (call_form function arguments) = names_of_target function
+names_of_form _ = None
+
+abbrev pub with_place : ℕ → Option (List (List ℕ)) → Option Call
 with_place place None = None
-with_place place (Some name) = Some (name, place)
+with_place place (Some names) = Some (record { names = names; place = place })
 
--- the input that a body reads, and the place of `json-lines`
-abbrev pub input_of_body : BoundTree → Option (Name × ℕ)
-input_of_body (tree_node place form) = with_place place (input_of_form form)
+-- the call that a body is
+abbrev pub call_of_body : BoundTree → Option Call
+call_of_body (tree_node place form) = with_place place (names_of_form form)
 
-abbrev pub input_where : List (PlainVariable Slot Target SeqType)
-    → List (PlainFunction Slot Target SeqType) → BoundTree → Option (Name × ℕ)
-input_where [] [] body = input_of_body body
-input_where _ _ body = None
+abbrev pub call_where : List (PlainVariable Slot Target SeqType)
+    → List (PlainFunction Slot Target SeqType) → BoundTree → Option Call
+call_where [] [] body = call_of_body body
+call_where _ _ body = None
 
--- that of a query, where `run` is built for it
-abbrev pub input_of : BoundTrees → Option (Name × ℕ)
-input_of query = input_where query.variables query.functions query.body
+-- the call that a query is, where `run` is built for it
+abbrev pub call_of : BoundTrees → Option Call
+call_of query = call_where query.variables query.functions query.body

@@ -10,6 +10,7 @@ use Rattle.outside.specs.Opens.{InputCounts}
 use Rattle.rumble_run.specs.Answer.{Answer, lined, spot_text, usage}
 use Rattle.rumble_run.specs.declared.status.Status.{Status}
 use Rattle.rumble_run.specs.declared.words.Task.{Task}
+use Rattle.rumble_run.specs.declared.words.Task.TheVariants.{Check}
 use Rattle.rumble_run.specs.declared.status.Status.TheVariants.{Done, Raised, Refused, Usage, ReadFault, WriteFault, NoMemory, NoQuery}
 
 -- the status is the answer's; or writing its output failed, reading failed, or memory was short
@@ -82,6 +83,27 @@ pub record NoCountFalls (before after : InputCounts) : Type 0 where
 pub record IsBalanced (before after : InputCounts) : Type 0 where
   pub same : after.opened < 2 ^ 64 - 1 → after.closed < 2 ^ 64 - 1
       → after.opened + before.closed ≡ before.opened + after.closed
+
+-- so many files were opened, or fewer
+abbrev pub OpenedAtMost : ℕ → InputCounts → InputCounts → Type 0
+OpenedAtMost n before after = after.opened ≤ before.opened + n
+
+-- so many files were opened
+abbrev pub OpenedJust : ℕ → InputCounts → InputCounts → Type 0
+OpenedJust n before after =
+    OpenedAtMost n before after
+    × (after.opened < 2 ^ 64 - 1 → after.opened ≡ before.opened + n)
+
+-- of so many files, each was opened; or, where reading failed or memory was short, some were
+abbrev pub OpenedBy : ℕ → Status → InputCounts → InputCounts → Type 0
+OpenedBy n ReadFault before after = OpenedAtMost n before after
+OpenedBy n NoMemory before after = OpenedAtMost n before after
+OpenedBy n _ before after = OpenedJust n before after
+
+-- `check` opens no file but its query
+abbrev pub ChecksAlone : Option (Task × List ℕ) → InputCounts → InputCounts → Type 0
+ChecksAlone (Some (Check, name)) before after = OpenedAtMost 1 before after
+ChecksAlone _ before after = Unit {0}
 
 -- an open, or a call on a file, failed
 abbrev pub FaultsRose : InputCounts → InputCounts → Type 0

@@ -3,6 +3,7 @@ use Rattle.std.specs.Prelude.{◌≡◌, ℕ, List}
 use Rattle.outside.specs.World.{World}
 use Rattle.rumble_run.specs.Front.{Front, IsFront}
 use Rattle.rumble_run.specs.Answer.{Answer, IsAnswer}
+use Rattle.rumble_run.specs.Opens.{IsOpened}
 
 -- a query has a front, and no other
 pub record HasOneFront (query : List ℕ) : Type 0 where
@@ -14,3 +15,9 @@ pub record HasOneAnswer (words : List (List ℕ)) (world : World) : Type 0 where
   pub some : (answer : Answer) × IsAnswer words world answer
   pub only : (answer other : Answer) → IsAnswer words world answer → IsAnswer words world other
       → answer ≡ other
+
+-- a command line opens some files over a world, and no others
+pub record OpensOneList (words : List (List ℕ)) (world : World) : Type 0 where
+  pub some : (files : List (List ℕ)) × IsOpened words world files
+  pub only : (files others : List (List ℕ)) → IsOpened words world files
+      → IsOpened words world others → files ≡ others

@@ -3,8 +3,7 @@ pub mod Place
 pub mod Front
 pub mod Built
 pub mod Answer
+pub mod Opens
 pub mod Laws
 pub mod Ends
-pub mod Reads
-pub mod Seen
-pub mod Cuts
+pub mod inside

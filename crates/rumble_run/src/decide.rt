@@ -1,53 +1,40 @@
-ghost use Rattle.std.specs.Prelude.{◌≡◌, ◌≢◌, ◌≤◌, None, IfOk, IfErr, IfSome, option_map, string_bytes, IsErrOf};
-ghost use Rattle.rumble_run.specs.Answer.{IsAnswer, IsOfQuery, of_result, of_tree, input_items, usage};
+ghost use Rattle.std.specs.Prelude.{◌≡◌, ◌≢◌, ◌≤◌, None, Ok, IfOk, IfErr, IfSome, length, string_bytes, IsErrOf};
+ghost use Rattle.query_meaning.specs.Outcome.{at_place};
+ghost use Rattle.rumble_run.specs.Answer.{IsAnswer, IsOfQuery, of_outcome, usage};
+ghost use Rattle.rumble_run.specs.Built.{call_of};
 ghost use Rattle.rumble_run.specs.Command.{command_of};
-ghost use Rattle.rumble_run.specs.Ends.{OpensBy};
-ghost use Rattle.rumble_run.specs.Reads.{Leaves};
-ghost use Rattle.rumble_run.specs.Seen.{answer_of, IsShaped, IsOfStatus, LeavesRun, plain_of};
+ghost use Rattle.rumble_run.specs.Ends.{OpensBy, ChecksAlone};
+ghost use Rattle.rumble_run.specs.Front.{Front, IsFront};
+ghost use Rattle.rumble_run.specs.Opens.{call_opens, inputs_opened, OfOpened};
+ghost use Rattle.rumble_run.specs.inside.Computed.{of_tree};
+ghost use Rattle.rumble_run.specs.inside.Held.{given_by};
+ghost use Rattle.rumble_run.specs.inside.Reads.{Leaves, OpenedTo};
+ghost use Rattle.rumble_run.specs.inside.Seen.{answer_of, IsShaped, IsOfStatus, LeavesRun, plain_of};
 
-use crate::built::input_of;
+use crate::built::call_of;
 use crate::ending::Ending;
-use crate::front::{FrontFault, front};
-use crate::items::read_items;
+use crate::front::{FrontFault, discard, front};
+use crate::inputs::{Held, fault_of, read_inputs};
 use crate::mark::without_mark;
 use crate::read::read_named;
 use crate::status::Stop;
 use crate::telling::{accepts, prints, tells_error, tells_no_query, tells_refusal, tells_usage};
 use crate::words::{Task, command_of};
-use expression_parser::gather::discard;
 use item_tree::{Code, Fault, Str};
 use outside::Inputs;
 use query_tree::Compiled;
 use std::alloc::Global;
 
-// What the items of an input come to, where there is such an input.
-fn of_input(alloc: Global, text: &[u8], place: u32, input: Option<Vec<u8>>) -> Result<Ending, Stop>
-    ensures value { IfOk result
-        (λ e.
-        answer_of e ≡ of_result text.now (input_items place (option_map (λ v. v.items) input))) }
+// What a call of `json-lines` at this place comes to.
+fn of_inputs(alloc: Global, text: &[u8], place: u32, held: &[Held]) -> Result<Ending, Stop>
+    ensures value { IfOk result (λ e.
+        answer_of e ≡ of_outcome text.now (at_place place (given_by held.now))) }
     ensures memory { IfErr result (λ stop. stop ≡ Stop.NoMemory) }
 {
-    let code = match input {
-        None => Code::FODC0002,
-        Some(bytes) => {
-            let read = read_items(alloc, &bytes);
-            // The items hold no part of the bytes.
-            drop(bytes);
-            match read {
-                Ok(items) => return Ok(prints(alloc, &items)?),
-                Err(fault) => match fault.code() {
-                    Some(code) => code,
-                    None => return Err(Stop::NoMemory),
-                },
-            }
-        }
-    };
-    let fault = Fault {
-        code,
-        place,
-        spot: None,
-    };
-    Ok(tells_error(alloc, text, &fault)?)
+    match fault_of(held) {
+        Some(code) => Ok(tells_error(alloc, text, &Fault::at(code, place))?),
+        None => Ok(prints(alloc, held)?),
+    }
 }
 
 // What a query comes to that is run over its inputs.
@@ -58,23 +45,20 @@ fn of_run<I: Inputs>(
     inputs: &mut I,
 ) -> Result<Ending, Stop>
     ensures world { I.world inputs.new ≡ I.world inputs.old }
-    ensures value { IfOk result
-        (λ e.
-        IfSome (I.world inputs.old)
-        (λ w. answer_of e ≡ of_tree Task.Run text.now w (plain_of query.now))) }
+    ensures value { IfOk result (λ e. IfSome (I.world inputs.old) (λ w.
+        answer_of e ≡ of_tree Task.Run text.now w (plain_of query.now))) }
     ensures shape { IfOk result (λ e. IsOfStatus e.out.items (string_bytes e.err) e.status) }
     ensures counts { LeavesRun result (I.counts inputs.old) (I.counts inputs.new) }
+    ensures opened { IfSome (I.world inputs.old) (λ w. OpenedTo result
+        (length (call_opens w (call_of (plain_of query.now)))) (I.counts inputs.old)
+        (I.counts inputs.new)) }
 {
-    let Some((name, place)) = input_of(query) else {
-        let fault = Fault {
-            code: Code::PJST0099,
-            place: 0,
-            spot: None,
-        };
+    let Some((names, place)) = call_of(query) else {
+        let fault = Fault::at(Code::PJST0099, 0);
         return Ok(tells_refusal(alloc, text, &fault)?);
     };
-    let input = read_named(alloc, inputs, name.as_str())?;
-    let ending = of_input(alloc, text, place, input)?;
+    let held = read_inputs(alloc, inputs, names)?;
+    let ending = of_inputs(alloc, text, place, &held)?;
     Ok(ending)
 }
 
@@ -87,12 +71,15 @@ fn of_tree<I: Inputs>(
     inputs: &mut I,
 ) -> Result<Ending, Stop>
     ensures world { I.world inputs.new ≡ I.world inputs.old }
-    ensures value { IfOk result
-        (λ e.
-        IfSome (I.world inputs.old)
-        (λ w. answer_of e ≡ of_tree task text.now w (plain_of query.now))) }
+    ensures value { IfOk result (λ e. IfSome (I.world inputs.old) (λ w.
+        answer_of e ≡ of_tree task text.now w (plain_of query.now))) }
     ensures shape { IfOk result (λ e. IsOfStatus e.out.items (string_bytes e.err) e.status) }
     ensures counts { LeavesRun result (I.counts inputs.old) (I.counts inputs.new) }
+    ensures opened { IfSome (I.world inputs.old) (λ w. OpenedTo result
+        (length (inputs_opened task w (Ok (plain_of query.now)))) (I.counts inputs.old)
+        (I.counts inputs.new)) }
+    ensures alone { task ≡ Task.Check →
+        (I.counts inputs.new).opened ≡ (I.counts inputs.old).opened }
 {
     match task {
         Task::Run => {
@@ -115,6 +102,11 @@ fn of_query<I: Inputs>(
         (λ e. IfSome (I.world inputs.old) (λ w. IsOfQuery task w query.now (answer_of e))) }
     ensures shape { IfOk result (λ e. IsOfStatus e.out.items (string_bytes e.err) e.status) }
     ensures counts { LeavesRun result (I.counts inputs.old) (I.counts inputs.new) }
+    ensures opened { IfSome (I.world inputs.old) (λ w. (front : Front) → IsFront query.now front →
+        OpenedTo result (length (inputs_opened task w front)) (I.counts inputs.old)
+        (I.counts inputs.new)) }
+    ensures alone { task ≡ Task.Check →
+        (I.counts inputs.new).opened ≡ (I.counts inputs.old).opened }
 {
     let text = without_mark(query);
     match front(alloc, query) {
@@ -143,15 +135,17 @@ pub(crate) fn decide<I: Inputs>(
     ensures counts { Leaves result (I.counts inputs.old) (I.counts inputs.new) }
     ensures opens { IfOk result (λ e.
         OpensBy e.status (I.counts inputs.old) (I.counts inputs.new)) }
+    ensures opened { OfOpened (I.world inputs.old) words.now (λ files.
+        OpenedTo result (length files) (I.counts inputs.old) (I.counts inputs.new)) }
+    ensures alone { ChecksAlone (command_of words.now) (I.counts inputs.old)
+        (I.counts inputs.new) }
 {
     let Some((task, name)) = command_of(words) else {
         return Ok(tells_usage(alloc)?);
     };
-    match read_named(alloc, inputs, name.as_str())? {
-        None => Ok(tells_no_query(alloc, name)?),
-        Some(query) => {
-            let ending = of_query(alloc, task, &query, inputs)?;
-            Ok(ending)
-        }
+    match read_named(alloc, inputs, name.as_str()) {
+        Err(stop) => Err(stop),
+        Ok(None) => Ok(tells_no_query(alloc, name)?),
+        Ok(Some(query)) => of_query(alloc, task, &query, inputs),
     }
 }

@@ -1,6 +1,6 @@
 ghost use Rattle.std.specs.Prelude.{◌≡◌, string_bytes};
 ghost use Rattle.rumble_run.specs.Ends.{OutBy, err_by, Wrote};
-ghost use Rattle.rumble_run.specs.Seen.{IsSilent, EndsAs};
+ghost use Rattle.rumble_run.specs.inside.Seen.{IsSilent, EndsAs};
 
 use crate::ending::Ending;
 use crate::status::Status;

@@ -2,7 +2,7 @@ ghost use Rattle.std.specs.Prelude.{◌≡◌, IfSome};
 ghost use Rattle.item_tree.specs.Faults.{fault_at};
 ghost use Rattle.static_rules.specs.Outcomes.{named_query};
 ghost use Rattle.rumble_run.specs.Front.{IsFront, IsFrontOfText, static_front};
-ghost use Rattle.rumble_run.specs.Seen.{front_of};
+ghost use Rattle.rumble_run.specs.inside.Seen.{front_of};
 
 use crate::mark::without_mark;
 use expression_parser::gather::discard;

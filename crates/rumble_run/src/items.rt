@@ -3,11 +3,11 @@ ghost use Rattle.item_tree.specs.Item.{datums};
 ghost use Rattle.item_reader.specs.Lines.{cut};
 ghost use Rattle.item_reader.specs.inside.Items.{items_of};
 ghost use Rattle.item_reader.specs.Faults.{code_of};
-ghost use Rattle.rumble_run.specs.Cuts.{lines_of, left_length};
+ghost use Rattle.rumble_run.specs.inside.Cuts.{lines_of, left_length};
 
 use crate::mark::without_mark;
 use item_reader::{LineFault, read_item};
-use item_tree::Item;
+use item_tree::{Item, NoMemory};
 use std::alloc::Global;
 
 fn first_line_feed(input: &[u8]) -> Option<usize>
@@ -27,14 +27,11 @@ fn split_line(input: &[u8]) -> (&[u8], Option<&[u8]>)
     }
 }
 
-fn keep(items: &mut Vec<Item>, item: Item) -> Result<(), LineFault>
-    ensures ok { OnOk result (items.new.items ≡ items.old.items ++ item ∷ []) }
-    ensures err { IfErr result (λ fault. fault ≡ LineFault.NoMemory) }
+fn keep(items: &mut Vec<Item>, item: Item) -> Result<(), NoMemory>
+    ensures { OnOk result (items.new.items ≡ items.old.items ++ item ∷ []) }
 {
-    match items.push(item) {
-        Ok(()) => Ok(()),
-        Err(_) => Err(LineFault::NoMemory),
-    }
+    items.push(item)?;
+    Ok(())
 }
 
 /// The items of an input's lines in order, or the fault of the first line that has one.

@@ -3,7 +3,7 @@
 
 ghost use Rattle.std.specs.Prelude.{ℕ, List};
 ghost use Rattle.outside.specs.World.{World};
-ghost use Rattle.rumble_run.specs.Laws.{HasOneFront, HasOneAnswer};
+ghost use Rattle.rumble_run.specs.Laws.{HasOneFront, HasOneAnswer, OpensOneList};
 
 /// Every query has a front, a compiled tree or a refusal, and only one.
 pub fn one_front()
@@ -13,4 +13,9 @@ pub fn one_front()
 /// Every command line has an answer over every world, and only one.
 pub fn one_answer()
     ensures { (words : List (List ℕ)) → (world : World) → HasOneAnswer words world }
+{}
+
+/// Every command line opens some files over every world, and no others.
+pub fn opens_one_list()
+    ensures { (words : List (List ℕ)) → (world : World) → OpensOneList words world }
 {}

@@ -2,17 +2,19 @@
 //! and a status comes out.
 #![tactic(auto)]
 
-ghost use Rattle.std.specs.Prelude.{◌≡◌, ◌≢◌, ◌≤◌, ◌<◌, ◌⊎◌, ℕ, List, None};
+ghost use Rattle.std.specs.Prelude.{◌≡◌, ◌≢◌, ◌≤◌, ◌<◌, ◌⊎◌, ℕ, List, None, length};
 ghost use Rattle.outside.specs.Counted.{Rose};
 ghost use Rattle.rumble_run.specs.Answer.{OfAnswer};
 ghost use Rattle.rumble_run.specs.Command.{command_of};
-ghost use Rattle.rumble_run.specs.Ends.{StatusBy, OutBy, err_by, HasText, Wrote, Calm, Completes, FaultsRose, MissesRose, OpensBy, IsBalanced, NoCountFalls};
+ghost use Rattle.rumble_run.specs.Ends.{StatusBy, OutBy, err_by, HasText, Wrote, Calm, Completes, FaultsRose, MissesRose, OpensBy, OpenedBy, ChecksAlone, IsBalanced, NoCountFalls};
+ghost use Rattle.rumble_run.specs.Opens.{OfOpened};
 
 mod built;
 mod decide;
 mod ending;
 mod finish;
 mod front;
+mod inputs;
 mod items;
 pub mod laws;
 mod mark;
@@ -81,8 +83,13 @@ pub fn rumble<R: Threads + Wait + Sync, I: Inputs, O: Sink, E: Sink, G: Gate>(
     ensures write_fault { result ≡ Status.WriteFault → Rose (O.faults out.old) (O.faults out.new) }
     ensures out_calm { result ≢ Status.WriteFault → O.faults out.new ≡ O.faults out.old }
 
-    // Which files were opened, and that each was closed.
+    // Which files were opened, and that each was closed: over inputs that tell their bytes the
+    // query's, and the input of each different name of its calls of `json-lines`.
+    ensures opened { OfOpened (I.world inputs.old) words.now (λ files.
+        OpenedBy (length files) result (I.counts inputs.old) (I.counts inputs.new)) }
     ensures opens { OpensBy result (I.counts inputs.old) (I.counts inputs.new) }
+    ensures alone { ChecksAlone (command_of words.now) (I.counts inputs.old)
+        (I.counts inputs.new) }
     ensures closed { IsBalanced (I.counts inputs.old) (I.counts inputs.new) }
     ensures rises { NoCountFalls (I.counts inputs.old) (I.counts inputs.new) }
     ensures world { I.world inputs.new ≡ I.world inputs.old }

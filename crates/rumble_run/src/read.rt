@@ -1,7 +1,7 @@
 ghost use Rattle.std.specs.Prelude.{◌≡◌, ◌≤◌, IfOk, IfSome, option_map, vec_len};
 ghost use Rattle.std.specs.Str.{chars};
 ghost use Rattle.outside.specs.World.{file_of};
-ghost use Rattle.rumble_run.specs.Reads.{CausedBy, LeavesRead};
+ghost use Rattle.rumble_run.specs.inside.Reads.{CausedBy, LeavesRead, OpenedTo, files_of_name};
 
 use crate::status::Stop;
 use outside::{InputFile, Inputs, OpenFault};
@@ -55,6 +55,8 @@ pub(crate) fn read_named<I: Inputs>(
     ensures bytes { IfOk result (λ o. IfSome (I.world inputs.old) (λ w.
         option_map (λ v. v.items) o ≡ file_of w (chars name.now))) }
     ensures counts { LeavesRead result (I.counts inputs.old) (I.counts inputs.new) }
+    ensures opened { IfSome (I.world inputs.old) (λ w. OpenedTo result
+        (files_of_name w (chars name.now)) (I.counts inputs.old) (I.counts inputs.new)) }
 {
     match inputs.open_file(name) {
         Ok(mut file) => {

@@ -273,8 +273,9 @@ fn accepts_queries(rt: HostRuntime) -> Result<(), Fail> {
 #[test]
 fn refuses_queries(rt: HostRuntime) -> Result<(), Fail> {
     let alloc = rt.alloc();
-    let cases: [(&[u8], &str); 22] = [
+    let cases: [(&[u8], &str); 25] = [
         (b"1e0", "PJST0001 at 1:1"),
+        (b"for tumbling", "PJST0001 at 1:5"),
         (b"", "XPST0003 at 1:1"),
         (b"1 +", "XPST0003 at 1:4"),
         (b"1 +\n", "XPST0003 at 2:1"),
@@ -283,7 +284,9 @@ fn refuses_queries(rt: HostRuntime) -> Result<(), Fail> {
         (b"100000000000000000000", "PJST0004 at 1:1"),
         (b"1 (: a (: b :)", "XPST0003 at 1:3"),
         (b"\n\"a", "XPST0003 at 2:1"),
+        (b"\"a", "XPST0003 at 1:1"),
         (b"1a", "XPST0003 at 1:1"),
+        (b"12ab", "XPST0003 at 1:1"),
         (b"1 ~", "XPST0003 at 1:3"),
         // A lexical refusal goes before one of the grammar.
         (b") ~", "XPST0003 at 1:3"),
@@ -339,7 +342,7 @@ fn refuses_to_run(rt: HostRuntime) -> Result<(), Fail> {
 #[test]
 fn reads_the_named_input(rt: HostRuntime) -> Result<(), Fail> {
     let alloc = rt.alloc();
-    let cases: [(&[u8], Status, &str, &str); 7] = [
+    let cases: [(&[u8], Status, &str, &str); 8] = [
         (b" (: c :) json-lines (  \"a\"  ) ", Status::Done, "1\n", ""),
         (
             b"\xef\xbb\xbfjson-lines(\"\\u0061\")",
@@ -352,6 +355,12 @@ fn reads_the_named_input(rt: HostRuntime) -> Result<(), Fail> {
             Status::Raised,
             "",
             "raised FODC0002 at 1:1\n",
+        ),
+        (
+            b"(: a (: b :) c :) json-lines( \"b\" )",
+            Status::Raised,
+            "",
+            "raised FODC0002 at 1:19\n",
         ),
         (
             b"json-lines(\"\")",
@@ -385,6 +394,62 @@ fn reads_the_named_input(rt: HostRuntime) -> Result<(), Fail> {
         assert_eq!(rt; left.status, status, "at {query:?}");
     }
     Ok(())
+}
+
+// A call of `json-lines` with so many names of one input.
+fn many_names(alloc: Global, count: usize) -> Result<String, Fail> {
+    let mut query = String::from_str(alloc, "json-lines(\"a\"")?;
+    for _ in 1..count {
+        query.push_str(",\"a\"")?;
+    }
+    query.push_str(")")?;
+    Ok(query)
+}
+
+// The inputs `a`, `b` and `c`, whose second line is no JSON; a fourth open of a run would fail.
+fn three_inputs<R: Threads + Wait + Sync + Abort>(
+    rt: &R,
+    alloc: Global,
+    query: &str,
+) -> Result<Outcome, Fail> {
+    let mut files = two_files(alloc, query.as_bytes(), b"1")?;
+    add(alloc, &mut files, "b", b"2\n")?;
+    add(alloc, &mut files, "c", b"3\n{\n")?;
+    assert!(rt; names_differ(&files));
+    let inputs = MemInputs::new(alloc, files, failing(alloc, &[4], &[])?)?;
+    run(rt, alloc, &["run", "q"], inputs, (200, 100))
+}
+
+// Several inputs in one call: each is opened once, and a missing one goes before a faulty line.
+#[test]
+fn reads_several_inputs(rt: HostRuntime) -> Result<(), Fail> {
+    let alloc = rt.alloc();
+    let cases = [
+        ("json-lines(\"a\", \"b\")", "1\n2\n", ""),
+        ("json-lines(\"b\", \"a\", \"b\")", "2\n1\n2\n", ""),
+        ("json-lines(\"a\", \"a\", \"a\", \"a\")", "1\n1\n1\n1\n", ""),
+        ("json-lines(\"b\", \"c\")", "", "raised JNDY0021 at 1:1\n"),
+        (
+            " json-lines(\"c\", \"none\")",
+            "",
+            "raised FODC0002 at 1:2\n",
+        ),
+        (
+            "json-lines(\"none\", \"a\")",
+            "",
+            "raised FODC0002 at 1:1\n",
+        ),
+    ];
+    for (query, out, err) in cases {
+        let left = three_inputs(&rt, alloc, query)?;
+        assert_eq!(rt; left.err.bytes(), err.as_bytes(), "at {query}");
+        assert_eq!(rt; left.out.bytes(), out.as_bytes(), "at {query}");
+    }
+    let left = three_inputs(&rt, alloc, many_names(alloc, 64)?.as_str())?;
+    assert_eq!(rt; left.status, Status::Done);
+    assert_eq!(rt; left.out.bytes().len(), 128);
+    let most = many_names(alloc, 65)?;
+    assert_refused(&rt, alloc, "run", most.as_bytes(), "PJST0002 at 1:1")
 }
 
 // What each command line comes to.

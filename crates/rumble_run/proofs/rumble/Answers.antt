@@ -1,6 +1,6 @@
-use Rattle.rumble_run.specs.Seen.{answer_of}
+use Rattle.rumble_run.specs.inside.Seen.{answer_of}
 use Rattle.rumble_run.proofs.Endings.{ends_status, ends_complete}
-use Rattle.rumble_run.proofs.Fronts.{told}
+use Rattle.rumble_run.proofs.Answered.{told}
 use Rattle.rumble_run.proofs.rumble.Goals as goal
 
 pub returns-in-Ok-clause-status : goal.returns-in-Ok-clause-status

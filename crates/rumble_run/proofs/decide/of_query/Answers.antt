@@ -1,6 +1,6 @@
 use Rattle.std.proofs.Common.{Err}
 use Rattle.rumble_run.specs.Front.{IsFront}
-use Rattle.rumble_run.specs.Seen.{plain_of}
+use Rattle.rumble_run.specs.inside.Seen.{plain_of}
 use Rattle.rumble_run.proofs.Endings.{of_refusal, query_refused, query_ended}
 use Rattle.rumble_run.proofs.decide.of_query.Goals as goal
 

@@ -1,10 +1,12 @@
 use Rattle.item_tree.specs.declared.code.Code.TheVariants.{PJST0099}
 use Rattle.item_tree.specs.Faults.{fault_at}
-use Rattle.rumble_run.proofs.Endings.{of_refusal, of_input_items}
+use Rattle.std.proofs.Common.{◌∙◌, ap}
+use Rattle.rumble_run.specs.Answer.{refused}
+use Rattle.rumble_run.proofs.Endings.{of_refusal, of_outcome_is}
 use Rattle.rumble_run.proofs.decide.of_run.Goals as goal
 
 pub returns-in_default-clause-shape : goal.returns-in_default-clause-shape
-returns-in_default-clause-shape g c = of_refusal _ c.args.text.now (fault_at PJST0099 0) c.in_ok-tells_refusal.ensures
+returns-in_default-clause-shape g c = of_refusal _ c.args.text.now c.at-fault.result c.in_ok-tells_refusal.ensures
 
 pub returns-clause-shape : goal.returns-clause-shape
-returns-clause-shape g c = of_input_items _ _ _ c.in_ok-ending.ensures.value
+returns-clause-shape g c = of_outcome_is _ _ _ c.in_ok-ending.ensures.value

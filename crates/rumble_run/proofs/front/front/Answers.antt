@@ -2,7 +2,7 @@ use Rattle.std.proofs.Common.{sym, subst, Err}
 use Rattle.std.specs.Prelude.{IfSome}
 use Rattle.item_tree.specs.declared.code.Code.TheVariants.{XPST0003}
 use Rattle.rumble_run.specs.Front.{IsFront, refused_at}
-use Rattle.rumble_run.specs.Seen.{front_of}
+use Rattle.rumble_run.specs.inside.Seen.{front_of}
 use Rattle.rumble_run.proofs.Fronts.{behind, broken}
 use Rattle.rumble_run.proofs.front.front.Goals as goal
 

@@ -2,7 +2,7 @@ use Rattle.std.proofs.Common.{◌≡◌, Err, sym, subst}
 use Rattle.std.specs.Prelude.{IfSome}
 use Rattle.static_rules.specs.Outcomes.{named_query}
 use Rattle.rumble_run.specs.Front.{static_front}
-use Rattle.rumble_run.specs.Seen.{front_of}
+use Rattle.rumble_run.specs.inside.Seen.{front_of}
 use Rattle.rumble_run.proofs.Fronts.{compiles, refuses}
 use Rattle.rumble_run.proofs.front.front_of_query.Goals as goal
 

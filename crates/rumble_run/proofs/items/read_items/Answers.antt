@@ -16,7 +16,7 @@ returns-in_err-item-clause-fault c =
 pub reading-preserved-in_ok-keep : goal.reading-preserved-in_ok-keep
 reading-preserved-in_ok-keep c =
     let so_far : IsSoFar c.args.input.now c.reading.items.items (Some c.in-Some.bytes.now) = rw c.in-Some.is at c.reading.invariant in
-    rw c.in_ok-keep.ensures.ok (past_item _ _ _ _ _ (option_copied c.split_line.result.1) so_far c.split_line.ensures.line (rw c.in-Some-2.is at c.in_ok-item.ensures.ok))
+    rw c.in_ok-keep.ensures (past_item _ _ _ _ _ (option_copied c.split_line.result.1) so_far c.split_line.ensures.line (rw c.in-Some-2.is at c.in_ok-item.ensures.ok))
 
 pub returns-clause-items : goal.returns-clause-items
 returns-clause-items c = at_last _ _ (rw c.in_default.is at c.reading.invariant)

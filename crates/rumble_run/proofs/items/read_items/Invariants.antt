@@ -1,5 +1,5 @@
 use Rattle.std.specs.Prelude.{option_copied}
-use Rattle.rumble_run.specs.Cuts.{left_length}
+use Rattle.rumble_run.specs.inside.Cuts.{left_length}
 use Rattle.rumble_run.proofs.ItemLists.{IsSoFar}
 use Rattle.rumble_run.proofs.items.read_items.Given as goal
 

@@ -1,4 +1,4 @@
-use Rattle.rumble_run.proofs.Fronts.{one_answer}
+use Rattle.rumble_run.proofs.Answered.{one_answer}
 use Rattle.rumble_run.proofs.laws.one_answer.Goals as goal
 
 pub returns : goal.returns

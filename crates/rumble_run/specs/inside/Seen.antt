@@ -8,7 +8,7 @@ use Rattle.rumble_run.specs.Ends.{HasText, LooksForNone}
 use Rattle.rumble_run.specs.Front.{Front}
 use Rattle.rumble_run.specs.declared.front.FrontFault.{FrontFault}
 use Rattle.rumble_run.specs.declared.front.FrontFault.TheVariants as front
-use Rattle.rumble_run.specs.Reads.{Leaves}
+use Rattle.rumble_run.specs.inside.Reads.{Leaves}
 use Rattle.rumble_run.specs.declared.status.Status.{Status}
 use Rattle.rumble_run.specs.declared.status.Stop.{Stop}
 use Rattle.rumble_run.specs.declared.status.Status.TheVariants.{Done, Raised, Refused, Usage, ReadFault, WriteFault, NoMemory}

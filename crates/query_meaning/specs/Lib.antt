@@ -1,0 +1,4 @@
+pub mod Outcome
+pub mod Inputs
+pub mod inside
+pub mod Laws

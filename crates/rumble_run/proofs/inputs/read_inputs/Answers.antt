@@ -1,0 +1,38 @@
+use Rattle.std.proofs.Common.{◌≡◌, ◌∙◌, ◌++◌, ◌+◌, ◌∷◌, [], map, take, drop, refl, sym, ap, subst, arith, Option}
+use Rattle.std.specs.Prelude.{IfSome}
+use Rattle.outside.specs.World.{World}
+use Rattle.rumble_run.specs.inside.Held.{read_held}
+use Rattle.rumble_run.proofs.Opened.{told_all, told_from_two, opening, opening_at, pushed_read, leaves_then, next_taken, next_dropped}
+use Rattle.rumble_run.proofs.inputs.read_inputs.Goals as goal
+
+pub loop-name-init : goal.loop-name-init
+loop-name-init g c = record {
+  world = refl;
+  size = c.new-held.ensures.len;
+  held = told_all (g.I.Inputs.world c.args.inputs.now) (λ w. ap (map read_held) c.new-held.ensures.items);
+  counts = record {
+    cause = refl;
+    rises = record { faults = omega arith; misses = omega arith; opened = omega arith; closed = omega arith };
+    balanced = record { same = λ a b. refl };
+  };
+  opening = told_all (g.I.Inputs.world c.args.inputs.now) (λ w. opening w c.args.names.now (g.I.Inputs.counts c.args.inputs.now));
+}
+
+pub loop-name-preserved : goal.loop-name-preserved
+loop-name-preserved g c =
+    let names = c.args.names.now in
+    let i = c.loop-name.name-index in
+    let before = c.loop-name.invariant in
+    let world = g.I.Inputs.world c.args.inputs.now in
+    let taken = next_taken names i c.name-item.result c.loop-name-test.true c.name-item.is in
+    let dropped = next_dropped names i c.name-item.result c.loop-name-test.true c.name-item.is in
+    let size : c.len.result ≡ i = c.len.ensures ∙ before.size in
+    let sized = rw (size, before.world, c.deref.ensures.value) at c.in_ok-one.ensures.held in
+    let counted = rw (size, before.world) at c.in_ok-one.ensures.opened in
+    record {
+      world = c.in_ok-one.ensures.world ∙ before.world;
+      size = c.in_ok-push.ensures.len ∙ ap (λ n. n + 1) before.size;
+      held = rw c.in_ok-push.ensures.items (told_from_two world (λ w m one. pushed_read w c.loop-name.held.items c.in_ok-one.one (take i names) (take (i + 1) names) c.name-item.result taken m (one m)) before.held sized);
+      counts = leaves_then c.loop-name.held c.in_ok-one.one c.push.new.self _ _ _ before.counts c.in_ok-one.ensures.counts;
+      opening = told_from_two world (λ w o h. opening_at w (take i names) (drop i names) names (take (i + 1) names) (drop (i + 1) names) c.name-item.result _ _ _ taken dropped c.in_ok-one.ensures.counts.rises o h) before.opening counted;
+    }

@@ -1,0 +1,6 @@
+-- How the contracts of private functions see the code. None of it is part of what the answer is.
+pub mod Cuts
+pub mod Computed
+pub mod Reads
+pub mod Held
+pub mod Seen
