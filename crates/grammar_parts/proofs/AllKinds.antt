@@ -1,4 +1,4 @@
--- Finitely many kinds of tokens, and tests of all of them.
+-- Finitely many kinds of tokens, and tests of all of them. For other crates too.
 use Rattle.std.proofs.Common.{◌≡◌, ◌<◌, ◌≤◌, ◌+◌, ◌==◌, ℕ, suc, Bool, true, List, [], ◌∷◌, length, inl, inr, arith}
 use Rattle.std.specs.Prelude.{◌&&◌}
 use Rattle.std.proofs.lemmas.Bool.{and_parts, cases_lt, eqb-true}

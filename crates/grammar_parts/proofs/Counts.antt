@@ -1,4 +1,5 @@
 -- A part at two levels: it has the same values at both, as far as they are nested no deeper than the lower one allows.
+-- For other crates too.
 use Rattle.std.proofs.Common.{◌≡◌, ◌≤◌, ◌+◌, ◌⊎◌, inl, inr, ℕ, zero, suc, max, Bool, true, false, List, [], ◌∷◌, length, Option, Some, None, Ok, Err, refl, sym, ap, ◌∙◌, arith}
 use Rattle.std.specs.Prelude.{◌&&◌, not, if◌then◌else◌}
 use Rattle.grammar_parts.specs.Tokens.{Class, never, sees, sees_two, rest_of}

@@ -1,4 +1,5 @@
 -- Two parts that derive and begin the same on lists of at most so many tokens.
+-- For other crates too.
 use Rattle.std.proofs.Common.{◌≡◌, ◌≤◌, inl, inr, ℕ, suc, Bool, true, false, List, [], ◌∷◌, ◌++◌, length, refl, ap, arith}
 use Rattle.std.proofs.lemmas.List.{length-append}
 use Rattle.grammar_parts.specs.Tokens.{Class}

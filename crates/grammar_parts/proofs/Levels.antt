@@ -1,4 +1,5 @@
 -- The levels of a grammar: from the laws of its productions, those of its parts where any number of forms may nest.
+-- For other crates too.
 use Rattle.std.proofs.Common.{◌≡◌, ◌<◌, ◌≤◌, ◌-◌, ℕ, zero, suc, Bool, true, false, ap, arith}
 use Rattle.grammar_parts.specs.Tokens.{Class, over}
 use Rattle.grammar_parts.specs.Parts.{Part}

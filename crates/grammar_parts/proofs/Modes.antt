@@ -1,4 +1,5 @@
 -- The laws of the ways to combine parts, with sets of kinds that depend on the mode, and with tests that go over all modes and kinds.
+-- For other crates too.
 use Rattle.std.proofs.Common.{◌≡◌, ◌≤◌, ℕ, suc, Bool, true, false, Some, None, refl, sym}
 use Rattle.std.specs.Prelude.{◌&&◌, not}
 use Rattle.std.proofs.lemmas.Bool.{and_parts}

@@ -1,4 +1,5 @@
 -- The nesting of a grammar: at each level a part has exactly the values of a higher level that are nested no deeper than the level allows.
+-- For other crates too.
 use Rattle.std.proofs.Common.{◌≡◌, ◌≤◌, ℕ, zero, suc, max, Bool, true, false, List, [], ◌∷◌, ◌++◌, Some, None, Ok, refl, subst, arith}
 use Rattle.std.specs.Prelude.{◌&&◌}
 use Rattle.std.proofs.lemmas.Bool.{and_parts}

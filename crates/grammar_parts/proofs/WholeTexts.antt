@@ -1,4 +1,4 @@
--- What a whole list of tokens is read as, and where it is refused.
+-- What a whole list of tokens is read as, and where it is refused. For other crates too.
 use Rattle.std.proofs.Common.{◌≡◌, ◌≤◌, ◌+◌, ◌-◌, ◌==◌, ℕ, suc, Bool, false, List, [], ◌∷◌, ◌++◌, length, take, Option, Some, None, Ok, Err, refl, sym, ap, subst, ◌∙◌, append_assoc, MatchBool, arith}
 use Rattle.std.proofs.lemmas.List.{append-nil, length-append, take_at}
 use Rattle.std.proofs.lemmas.Bool.{eqb-true, false_from_ne_true}

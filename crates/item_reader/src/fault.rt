@@ -2,6 +2,7 @@ ghost use Rattle.std.specs.Prelude.{◌≡◌};
 ghost use Rattle.item_reader.specs.Faults.{code_of};
 
 use item_tree::{Code, NoMemory};
+use std::alloc::{AllocError, AllocFailed};
 
 /// Why a line gave no item.
 #[derive(Clone, Copy, Debug, PartialEq, Eq)]
@@ -28,6 +29,28 @@ impl LineFault {
             LineFault::TooDeep => Some(Code::PJDY0002),
             LineFault::NoMemory => None,
         }
+    }
+}
+
+impl From<AllocError> for LineFault {
+    ghost use Rattle.std.specs.Prelude.{◌≡◌};
+    ghost use Rattle.item_reader.specs.declared.fault.LineFault.TheVariants as line;
+
+    ghost from_gives = { λ _ e. e ≡ line.NoMemory };
+
+    fn from(_e: AllocError) -> LineFault {
+        LineFault::NoMemory
+    }
+}
+
+impl<T: Drop> From<AllocFailed<T>> for LineFault {
+    ghost use Rattle.std.specs.Prelude.{◌≡◌};
+    ghost use Rattle.item_reader.specs.declared.fault.LineFault.TheVariants as line;
+
+    ghost from_gives = { λ _ e. e ≡ line.NoMemory };
+
+    fn from(_e: AllocFailed<T>) -> LineFault {
+        LineFault::NoMemory
     }
 }
 

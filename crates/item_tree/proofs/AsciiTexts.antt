@@ -1,4 +1,4 @@
--- Texts of ASCII, whose characters are their bytes.
+-- Texts of ASCII, whose characters are their bytes. For other crates too.
 use Rattle.std.proofs.Common.{◌≡◌, ◌<◌, ℕ, Bool, true, nat_lt, List, [], ◌∷◌, sym, ap, ◌∙◌, arith}
 use Rattle.std.specs.Str.{chars, bytes_eq, IsUtf8, IsAscii}
 use Rattle.std.specs.List.{list_all}

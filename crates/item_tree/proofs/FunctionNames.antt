@@ -1,4 +1,4 @@
--- Functions and their names.
+-- Functions and their names. For other crates too.
 use Rattle.std.proofs.Common.{◌≡◌, ℕ, Bool, true, false, cond, ◌&&◌, nat_le, Option, Some, List, [], ◌∷◌, refl, sym, ap, ◌∙◌, arith}
 use Rattle.std.specs.List.{find}
 use Rattle.std.specs.Str.{chars, bytes_eq, IsUtf8}

@@ -1,4 +1,4 @@
--- What one more pair adds to an object.
+-- What one more pair adds to an object. For other crates too.
 use Rattle.std.proofs.Common.{◌≡◌, ◌≢◌, ℕ, zero, suc, ◌+◌, ◌<◌, ◌≤◌, max, List, [], ◌∷◌, ◌++◌, length, get_or, take, refl, sym, ap, subst, ◌∙◌, arith, inl, inr, true}
 use Rattle.std.specs.Str.{all_scalars}
 use Rattle.item_tree.specs.declared.fault.MakeFault.{MakeFault}

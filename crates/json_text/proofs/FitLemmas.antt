@@ -1,4 +1,4 @@
--- No value that is built is too deep, and the keys of each object differ.
+-- No value that is built is too deep, and the keys of each object differ. For other crates too.
 use Rattle.std.specs.Prelude.{◌≡◌, ℕ, ◌<◌, ◌≤◌, ◌+◌, nat_lt, List, [], ◌∷◌, ◌++◌, length, Some, None, refl}
 use Rattle.std.specs.Str.{bytes_eq}
 use Rattle.std.proofs.Common.{arith, inl, inr}

@@ -1,4 +1,5 @@
 -- What a numeral gives: the number that it says, or that this is out of bounds.
+-- For other crates too.
 use Rattle.std.specs.Prelude.{◌≡◌, Ok, Err, refl}
 use Rattle.std.proofs.Common.{sym, ◌∙◌, ap}
 use Rattle.std.proofs.lemmas.Bool.{cond_both}

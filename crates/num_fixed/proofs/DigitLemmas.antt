@@ -1,4 +1,4 @@
--- The number that digits spell.
+-- The number that digits spell. For other crates too.
 use Rattle.std.proofs.Common.{◌≡◌, inl, inr, ℕ, zero, suc, ◌+◌, ◌-◌, ◌*◌, ◌%◌, ◌^◌, ◌<◌, ◌≤◌, List, ◌∷◌, [], ◌++◌, length, get_or, drop, sym, ◌∙◌, ap, subst, refl, arith, true, false, ◌==◌}
 use Rattle.std.proofs.lemmas.List.{at_drop_more}
 use Rattle.std.proofs.lemmas.Bool.{and_parts, eqb-true, cases_Bool, eqb-false, and_cases, cases_eq, cases_lt, cond-true, cond-false}

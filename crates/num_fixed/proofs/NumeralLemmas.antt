@@ -1,4 +1,4 @@
--- A numeral and the bytes behind it; a text is one numeral at most.
+-- A numeral and the bytes behind it; a text is one numeral at most. For other crates too.
 use Rattle.std.proofs.Common.{◌≡◌, inl, inr, ℕ, ◌==◌, if◌then◌else◌, List, [], ◌∷◌, ◌++◌, Option, Some, None, append_assoc, sym, ◌∙◌, ap, subst, refl, arith, ◌≢◌, ◌⊎◌, ◌+◌, ◌*◌, ◌^◌, pos, ◌*ℤ◌, length, IsSome, unsigned_abs}
 use Rattle.std.specs.Char.{is_ascii_digit}
 use Rattle.std.specs.List.{list_all}

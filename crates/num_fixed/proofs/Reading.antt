@@ -1,4 +1,4 @@
--- From the pieces of a text to its numeral.
+-- From the pieces of a text to its numeral. For other crates too.
 use Rattle.std.proofs.Common.{◌≡◌, ◌≢◌, ◌⊎◌, inl, inr, ◌<◌, ◌≤◌, ℕ, suc, ◌+◌, ◌-◌, ◌*◌, ◌^◌, ℤ, pos, ◌*ℤ◌, Bool, true, false, ◌==◌, cond, List, [], ◌∷◌, ◌++◌, length, take, drop, pow-add, Result, Ok, Err, IfOk, IfErr, Option, Some, None, IsSome, sym, ◌∙◌, ap, subst, refl, arith, unsigned_abs}
 use Rattle.std.specs.Char.{is_ascii_digit}
 use Rattle.std.specs.List.{list_all}

@@ -5,6 +5,8 @@ mod exits;
 mod inputs;
 mod kept;
 mod sink;
+#[cfg(test)]
+mod tests;
 mod words;
 
 use crate::exits::exit_code;

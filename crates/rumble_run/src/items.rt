@@ -1,4 +1,4 @@
-ghost use Rattle.std.specs.Prelude.{◌≡◌, ◌≤◌, [], ◌∷◌, ◌++◌, length, ◌==◌, position, Ok, Err, IfOk, IfErr, IfSome, OnOk, option_copied};
+ghost use Rattle.std.specs.Prelude.{◌≡◌, ◌≤◌, ◌∷◌, length, ◌==◌, position, Ok, Err, IfOk, IfErr, IfSome, option_copied};
 ghost use Rattle.item_tree.specs.Item.{datums};
 ghost use Rattle.item_reader.specs.Lines.{cut};
 ghost use Rattle.item_reader.specs.inside.Items.{items_of};
@@ -7,7 +7,7 @@ ghost use Rattle.rumble_run.specs.inside.Cuts.{lines_of, left_length};
 
 use crate::mark::without_mark;
 use item_reader::{LineFault, read_item};
-use item_tree::{Item, NoMemory};
+use item_tree::Item;
 use std::alloc::Global;
 
 fn first_line_feed(input: &[u8]) -> Option<usize>
@@ -27,13 +27,6 @@ fn split_line(input: &[u8]) -> (&[u8], Option<&[u8]>)
     }
 }
 
-fn keep(items: &mut Vec<Item>, item: Item) -> Result<(), NoMemory>
-    ensures { OnOk result (items.new.items ≡ items.old.items ++ item ∷ []) }
-{
-    items.push(item)?;
-    Ok(())
-}
-
 /// The items of an input's lines in order, or the fault of the first line that has one.
 pub(crate) fn read_items(alloc: Global, input: &[u8]) -> Result<Vec<Item>, LineFault>
     ensures items { IfOk result (λ v. items_of input.now ≡ Ok (datums v.items)) }
@@ -44,7 +37,7 @@ pub(crate) fn read_items(alloc: Global, input: &[u8]) -> Result<Vec<Item>, LineF
     'reading: while let Some(bytes) = left {
         let (line, behind) = split_line(bytes);
         if let Some(item) = read_item(alloc, line)? {
-            keep(&mut items, item)?;
+            items.push(item)?;
         }
         left = behind;
     }
