@@ -12,7 +12,7 @@ use Rattle.outside.specs.World.{World}
 use Rattle.query_meaning.specs.inside.Computed.{inputs_of}
 
 -- the last line of `a` has no line feed, and `c` holds a line that is no JSON
-world : World
+abbrev world : World
 world = (codes "a", codes "1") ∷ (codes "b", codes "2\n\n3\n") ∷ (codes "c", codes "4\n{\n") ∷ []
 
 in_order : inputs_of world (codes "b" ∷ codes "a" ∷ codes "b" ∷ []) 7 ≡ Ok (integer (pos 2) ∷ integer (pos 3) ∷ integer (pos 1) ∷ integer (pos 2) ∷ integer (pos 3) ∷ [])
