@@ -7,6 +7,7 @@ and the parts, which are over the type `E` of the expressions that they hold. It
 
 - specs/Plain.antt: a plain type for each of them, with a constructor for each variant or struct, and
   the plain value of each tree, made by the generated fold;
+- proofs/Lists.antt: that the lists in plain trees are lists, there and back;
 - proofs/Folds.antt: what a fold gives at a node that is known;
 - proofs/Layers.antt: the plain value at each variant, and of an `Expr`, in one ruleset `layers`.
 
@@ -106,6 +107,10 @@ def list_type(name):
 
 def list_of(name):
     return plural(snake(PLAIN.get(name, name))) + "_of"
+
+
+def listed(name):
+    return "listed_" + list_of(name).removesuffix("_of")
 
 
 def none_of(name):
@@ -261,6 +266,10 @@ def write_plain():
         out.append(f"  {list_of(name)} [] = {none_of(name)}")
         out.append(f"  {list_of(name)} (x ∷ xs) = {more_of(name)} x ({list_of(name)} xs)")
         out.append("")
+        out.append(f"  abbrev pub {listed(name)} : {list_type(name)} V F T → List ({plain(name)} V F T)")
+        out.append(f"  {listed(name)} {none_of(name)} = []")
+        out.append(f"  {listed(name)} ({more_of(name)} x xs) = x ∷ {listed(name)} xs")
+        out.append("")
     out.append("  abbrev pub maybe_tree : Option (Box (Tree V F T) Global) → MaybeTree V F T")
     out.append("  maybe_tree None = no_tree")
     out.append("  maybe_tree (Some t) = one_tree t.value")
@@ -319,6 +328,31 @@ def is_record(fields):
 GENERIC = [f"A{i}" for i in range(len(ORDER))]
 STEPS = [f"step{i}" for i in range(len(ORDER))]
 TREES = " ".join(f"({n} V F T)" for n in ORDER)
+
+
+def write_lists():
+    """The lists of the plain mirror are lists: there and back, and back and there."""
+    out = [HEAD + "-- The lists of plain trees are lists. For other crates too."]
+    out.append("use Rattle.std.proofs.Common.{◌≡◌, List, [], ◌∷◌, refl, ap}")
+    words = [w for name in LISTS
+             for w in (plain(name), list_type(name), none_of(name), more_of(name), list_of(name), listed(name))]
+    out.append(f"use Rattle.query_tree.specs.Plain.{{{', '.join(dict.fromkeys(words))}}}")
+    out += ["", "module _ (V F T : Type 0) where"]
+    rules = []
+    for name in LISTS:
+        there, back = listed(name) + "-there", listed(name) + "-back"
+        rules += [there, back]
+        of, to = f"{list_of(name)} V F T", f"{listed(name)} V F T"
+        out.append(f"  pub {there} : (xs : List ({plain(name)} V F T)) → {to} ({of} xs) ≡ xs")
+        out.append(f"  {there} [] = refl")
+        out.append(f"  {there} (x ∷ xs) = ap (λ ys. x ∷ ys) ({there} xs)")
+        out.append("")
+        out.append(f"  pub {back} : (xs : {list_type(name)} V F T) → {of} ({to} xs) ≡ xs")
+        out.append(f"  {back} {none_of(name)} = refl")
+        out.append(f"  {back} ({more_of(name)} x xs) = ap ({more_of(name)} x) ({back} xs)")
+        out.append("")
+    out.append(f"pub ruleset lists = ({', '.join(rules)})")
+    (CRATE / "proofs/Lists.antt").write_text(without_unused("\n".join(out) + "\n"))
 
 
 def write_folds():
@@ -461,6 +495,7 @@ def write_layers():
 
 def main():
     write_plain()
+    write_lists()
     write_folds()
     write_layers()
 

@@ -4,6 +4,7 @@ pub mod Folds
 mod Framed
 mod Frames
 pub mod Layers
+pub mod Lists
 mod Maps
 mod NestingLaws
 pub mod NestingLists

@@ -195,53 +195,105 @@ module _ (V F T : Type 0) where
   clauses_of [] = no_clauses
   clauses_of (x ∷ xs) = more_clauses x (clauses_of xs)
 
+  abbrev pub listed_clauses : PlainClauses V F T → List (PlainClause V F T)
+  listed_clauses no_clauses = []
+  listed_clauses (more_clauses x xs) = x ∷ listed_clauses xs
+
   abbrev pub trees_of : List (Tree V F T) → Trees V F T
   trees_of [] = no_trees
   trees_of (x ∷ xs) = more_trees x (trees_of xs)
+
+  abbrev pub listed_trees : Trees V F T → List (Tree V F T)
+  listed_trees no_trees = []
+  listed_trees (more_trees x xs) = x ∷ listed_trees xs
 
   abbrev pub group_vars_of : List (PlainGroupVar V F T) → PlainGroupVars V F T
   group_vars_of [] = no_group_vars
   group_vars_of (x ∷ xs) = more_group_vars x (group_vars_of xs)
 
+  abbrev pub listed_group_vars : PlainGroupVars V F T → List (PlainGroupVar V F T)
+  listed_group_vars no_group_vars = []
+  listed_group_vars (more_group_vars x xs) = x ∷ listed_group_vars xs
+
   abbrev pub order_keys_of : List (PlainOrderKey V F T) → PlainOrderKeys V F T
   order_keys_of [] = no_order_keys
   order_keys_of (x ∷ xs) = more_order_keys x (order_keys_of xs)
+
+  abbrev pub listed_order_keys : PlainOrderKeys V F T → List (PlainOrderKey V F T)
+  listed_order_keys no_order_keys = []
+  listed_order_keys (more_order_keys x xs) = x ∷ listed_order_keys xs
 
   abbrev pub operands_of : List (PlainOperand V F T) → PlainOperands V F T
   operands_of [] = no_operands
   operands_of (x ∷ xs) = more_operands x (operands_of xs)
 
+  abbrev pub listed_operands : PlainOperands V F T → List (PlainOperand V F T)
+  listed_operands no_operands = []
+  listed_operands (more_operands x xs) = x ∷ listed_operands xs
+
   abbrev pub terms_of : List (PlainTerm V F T) → PlainTerms V F T
   terms_of [] = no_terms
   terms_of (x ∷ xs) = more_terms x (terms_of xs)
+
+  abbrev pub listed_terms : PlainTerms V F T → List (PlainTerm V F T)
+  listed_terms no_terms = []
+  listed_terms (more_terms x xs) = x ∷ listed_terms xs
 
   abbrev pub factors_of : List (PlainFactor V F T) → PlainFactors V F T
   factors_of [] = no_factors
   factors_of (x ∷ xs) = more_factors x (factors_of xs)
 
+  abbrev pub listed_factors : PlainFactors V F T → List (PlainFactor V F T)
+  listed_factors no_factors = []
+  listed_factors (more_factors x xs) = x ∷ listed_factors xs
+
   abbrev pub binds_of : List (PlainBind V F T) → PlainBinds V F T
   binds_of [] = no_binds
   binds_of (x ∷ xs) = more_binds x (binds_of xs)
+
+  abbrev pub listed_binds : PlainBinds V F T → List (PlainBind V F T)
+  listed_binds no_binds = []
+  listed_binds (more_binds x xs) = x ∷ listed_binds xs
 
   abbrev pub cases_of : List (PlainCase V F T) → PlainCases V F T
   cases_of [] = no_cases
   cases_of (x ∷ xs) = more_cases x (cases_of xs)
 
+  abbrev pub listed_cases : PlainCases V F T → List (PlainCase V F T)
+  listed_cases no_cases = []
+  listed_cases (more_cases x xs) = x ∷ listed_cases xs
+
   abbrev pub type_cases_of : List (PlainTypeCase V F T) → PlainTypeCases V F T
   type_cases_of [] = no_type_cases
   type_cases_of (x ∷ xs) = more_type_cases x (type_cases_of xs)
+
+  abbrev pub listed_type_cases : PlainTypeCases V F T → List (PlainTypeCase V F T)
+  listed_type_cases no_type_cases = []
+  listed_type_cases (more_type_cases x xs) = x ∷ listed_type_cases xs
 
   abbrev pub catches_of : List (PlainCatch V F T) → PlainCatches V F T
   catches_of [] = no_catches
   catches_of (x ∷ xs) = more_catches x (catches_of xs)
 
+  abbrev pub listed_catches : PlainCatches V F T → List (PlainCatch V F T)
+  listed_catches no_catches = []
+  listed_catches (more_catches x xs) = x ∷ listed_catches xs
+
   abbrev pub pairs_of : List (PlainPair V F T) → PlainPairs V F T
   pairs_of [] = no_pairs
   pairs_of (x ∷ xs) = more_pairs x (pairs_of xs)
 
+  abbrev pub listed_pairs : PlainPairs V F T → List (PlainPair V F T)
+  listed_pairs no_pairs = []
+  listed_pairs (more_pairs x xs) = x ∷ listed_pairs xs
+
   abbrev pub steps_of : List (PlainStep V F T) → PlainSteps V F T
   steps_of [] = no_steps
   steps_of (x ∷ xs) = more_steps x (steps_of xs)
+
+  abbrev pub listed_steps : PlainSteps V F T → List (PlainStep V F T)
+  listed_steps no_steps = []
+  listed_steps (more_steps x xs) = x ∷ listed_steps xs
 
   abbrev pub maybe_tree : Option (Box (Tree V F T) Global) → MaybeTree V F T
   maybe_tree None = no_tree
