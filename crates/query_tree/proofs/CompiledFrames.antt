@@ -1,5 +1,5 @@
 -- The expressions of a compiled query are bound over its frames.
-use Rattle.std.proofs.Common.{◌≡◌, ℕ, zero, suc, ◌+◌, true, ◌&&◌, Some, List, [], ◌∷◌, ◌++◌, subst, arith}
+use Rattle.std.proofs.Common.{◌≡◌, ℕ, zero, suc, ◌+◌, true, ◌&&◌, Some, List, [], ◌∷◌, ◌++◌, ap, subst, ◌∙◌, arith}
 use Rattle.std.specs.Prelude.{nat_lt, slice_get}
 use Rattle.std.specs.List.{list_all}
 use Rattle.std.proofs.lemmas.Bool.{and_parts}
@@ -10,19 +10,21 @@ use Rattle.query_tree.specs.declared.bound.Target.{Target}
 use Rattle.query_tree.specs.Modules.{PlainVariable, PlainFunction}
 use Rattle.query_tree.specs.Scopes.{these, below, Scope}
 use Rattle.query_tree.specs.Bound.{is_bound}
-use Rattle.query_tree.specs.Bindings.{bindings}
+use Rattle.query_tree.specs.Binders.{params_binders, binders}
+use Rattle.query_tree.specs.Bindings.{numbers_of, bindings}
 use Rattle.query_tree.specs.Compiled.{BoundTrees, is_own, variable_scope, body_scope, after_params, params_bound, variables_bound, functions_bound, module_bound, all_differ, are_apart, params_bindings, module_apart, is_compiled, IsFramed}
-use Rattle.query_tree.proofs.Frames.{Small, small_none, small_parts, InFrame, framed, after_params-fits, params-framed, framed-after_params}
+use Rattle.query_tree.proofs.Frames.{Fits, small_none, fit_parts, InFrame, framed, after_params-fits, params-framed, framed-after_params}
+use Rattle.query_tree.proofs.SlotNumbers.{numbers-append}
 use Rattle.query_tree.proofs.Framed.{tree-framed}
 
-small_of : (width : ℕ) (ns : List ℕ) → are_apart width ns ≡ true → Small width ns
-small_of width ns h = record { all = (and_parts (list_all (λ n. nat_lt n width) ns) (all_differ ns) h).0 }
+fits_of : (width : ℕ) (vs : List Slot) → are_apart width (numbers_of vs) ≡ true → Fits width vs
+fits_of width vs h = record { all = (and_parts (list_all (λ n. nat_lt n width) (numbers_of vs)) (all_differ (numbers_of vs)) h).0 }
 
 variable_at : (width number place : ℕ) (xs : List (PlainVariable Slot Target SeqType)) → variables_bound (these []) number xs ≡ true → list_all (λ x. are_apart width (bindings x.value)) xs ≡ true → (i : ℕ) (x : PlainVariable Slot Target SeqType) → place ≡ number + i → slice_get xs i ≡ Some x → is_bound (variable_scope (below width) place) x.value ≡ true
 variable_at width number place [] h a i x e g = absurd (none-some _ g)
 variable_at width number place (y ∷ ys) h a zero x e g =
     let here = and_parts _ _ (and_parts _ (variables_bound (these []) (number + 1) ys) h).0 in
-    let own = small_of width (bindings y.value) (and_parts _ _ a).0 in
+    let own = fits_of width (binders y.value) (and_parts _ _ a).0 in
     let known = tree-framed width (variable_scope (these []) number) (small_none width) y.value here.1 own in
     let at : number ≡ place = omega (arith, e) in
     subst (λ z. is_bound (variable_scope (below width) place) z.value ≡ true) (same_Some _ _ g) (subst (λ n. is_bound (variable_scope (below width) n) y.value ≡ true) at known)
@@ -38,7 +40,8 @@ function_at width number s fits [] h a i f g = absurd (none-some _ g)
 function_at width number s fits (q ∷ fs) h a zero f g =
     let first = (and_parts _ (functions_bound s (number + 1) fs) h).0 in
     let tests = and_parts (is_own number q.function.name && params_bound s q.params) (is_bound (after_params s q.params) q.body) first in
-    let own = small_parts width (params_bindings q.params) (bindings q.body) (small_of width (params_bindings q.params ++ bindings q.body) (and_parts _ _ a).0) in
+    let together = ap (are_apart width) (numbers-append (params_binders q.params) (binders q.body)) ∙ (and_parts _ _ a).0 in
+    let own = fit_parts width (params_binders q.params) (binders q.body) (fits_of width (params_binders q.params ++ binders q.body) together) in
     let known = tree-framed width (after_params s q.params) (after_params-fits width s q.params fits own.0) q.body tests.1 own.1 in
     let fact : FunctionFits width s q = record {
       params = params-framed width s fits q.params (and_parts (is_own number q.function.name) (params_bound s q.params) tests.0).1 own.0;
@@ -60,5 +63,5 @@ compiled-framed width m h =
       variables = λ i x g. variable_at width 0 i m.variables declared.0 own.0 i x (omega arith) g;
       params = λ i f g. (function_at width 0 s (small_none width) m.functions declared.1 own.1 i f g).params;
       functions = λ i f g. (function_at width 0 s (small_none width) m.functions declared.1 own.1 i f g).body;
-      body = tree-framed width s (small_none width) m.body bound.1 (small_of width (bindings m.body) apart.1);
+      body = tree-framed width s (small_none width) m.body bound.1 (fits_of width (binders m.body) apart.1);
     }

@@ -16,24 +16,33 @@ use Rattle.query_tree.specs.Plain as p
 use Rattle.query_tree.specs.Plain.{PlainBind, PlainBinds, PlainClause, PlainClauses, PlainGroupVar, PlainGroupVars}
 use Rattle.query_tree.specs.Scopes.{Locals, these, below, Scope, has_local, may_read, may_bind, may_bind_any, and_local, with_slot, with_any, may_call}
 use Rattle.query_tree.specs.Bound.{after_key, after_keys, after_clause, after_clauses, after_bind, after_binds}
-use Rattle.query_tree.specs.Bindings.{own_number, own_numbers, bindings, bind_bindings, binds_bindings, clause_bindings, clauses_bindings, group_var_bindings, group_vars_bindings}
-use Rattle.query_tree.specs.Compiled.{after_params, params_bound, params_bindings}
+use Rattle.query_tree.specs.Binders.{any_name, params_binders, binders, bind_binders, binds_binders, clause_binders, clauses_binders, group_var_binders, group_vars_binders}
+use Rattle.query_tree.specs.Bindings.{own_number, numbers_of}
+use Rattle.query_tree.specs.Compiled.{after_params, params_bound}
+use Rattle.query_tree.proofs.SlotNumbers.{numbers-append}
 
 -- each number is that of a slot of the frame
 pub record Small (width : ℕ) (ns : List ℕ) : Type 0 where
   pub all : list_all (λ n. nat_lt n width) ns ≡ true
 
+-- and so is the number of each binding
+pub record Fits (width : ℕ) (vs : List Slot) : Type 0 where
+  pub all : list_all (λ n. nat_lt n width) (numbers_of vs) ≡ true
+
 module _ (width : ℕ) where
   pub small_none : Small width []
   small_none = record { all = refl }
 
-  pub small_parts : (ns ms : List ℕ) → Small width (ns ++ ms) → Small width ns × Small width ms
-  small_parts ns ms s =
-      let both = and_parts _ _ (sym (list_all-append (λ n. nat_lt n width) ns ms) ∙ s.all) in
+  pub fit_parts : (vs ws : List Slot) → Fits width (vs ++ ws) → Fits width vs × Fits width ws
+  fit_parts vs ws s =
+      let both = and_parts _ _ (sym (list_all-append (λ n. nat_lt n width) (numbers_of vs) (numbers_of ws)) ∙ ap (list_all (λ n. nat_lt n width)) (sym (numbers-append vs ws)) ∙ s.all) in
       (record { all = both.0 }, record { all = both.1 })
 
-  pub small_more : (n : ℕ) (ns : List ℕ) → Small width (n ∷ []) → Small width ns → Small width (n ∷ ns)
-  small_more n ns a s = record { all = both_true (and_parts (nat_lt n width) true a.all).0 s.all }
+  own_fits : (n : ℕ) → Fits width (Local n ∷ []) → nat_lt n width ≡ true
+  own_fits n a = (and_parts (nat_lt n width) true a.all).0
+
+  small_more : (n : ℕ) (ns : List ℕ) → Fits width (Local n ∷ []) → Small width ns → Small width (n ∷ ns)
+  small_more n ns a s = record { all = both_true (own_fits n a) s.all }
 
   small_member : (ns : List ℕ) (n : ℕ) → Small width ns → list_any (λ m. m == n) ns ≡ true → nat_lt n width ≡ true
   small_member [] n s h = absurd (false≢true h)
@@ -44,7 +53,7 @@ module _ (width : ℕ) where
         | false ↦ λ e rest. small_member ns n (record { all = parts.1 }) rest
       ] refl h
 
-  -- the local bindings that are seen are known, and lie in the frame
+  -- the local binders that are seen are known, and lie in the frame
   abbrev pub InFrame : Locals → Type 0
   InFrame (these ns) = Small width ns
   InFrame (below n) = ⊥
@@ -60,11 +69,11 @@ module _ (width : ℕ) where
   read-framed s (Local n) f h = local_read s.locals n f h
   read-framed s (Global n) f h = h
 
-  pub slot-framed : (s : Scope) (v : Slot) → may_bind s v ≡ true → Small width (own_number v) → may_bind (framed s) v ≡ true
-  slot-framed s (Local n) h a = (and_parts (nat_lt n width) true a.all).0
+  pub slot-framed : (s : Scope) (v : Slot) → may_bind s v ≡ true → Fits width (v ∷ []) → may_bind (framed s) v ≡ true
+  slot-framed s (Local n) h a = own_fits n a
   slot-framed s (Global n) h a = h
 
-  pub slot_any-framed : (s : Scope) (v : Option (Placed Slot)) → may_bind_any s v ≡ true → Small width (own_numbers v) → may_bind_any (framed s) v ≡ true
+  pub slot_any-framed : (s : Scope) (v : Option (Placed Slot)) → may_bind_any s v ≡ true → Fits width (any_name v) → may_bind_any (framed s) v ≡ true
   slot_any-framed s None h a = refl
   slot_any-framed s (Some v) h a = slot-framed s v.name h a
 
@@ -73,58 +82,58 @@ module _ (width : ℕ) where
   call-framed s (Own n) count h = h
   call-framed s (Lines name) count h = h
 
-  seen_more : (seen : Locals) (v : Slot) → InFrame seen → Small width (own_number v) → InFrame (and_local seen v)
+  seen_more : (seen : Locals) (v : Slot) → InFrame seen → Fits width (v ∷ []) → InFrame (and_local seen v)
   seen_more (these ns) (Local n) f a = small_more n ns a f
   seen_more (these ns) (Global n) f a = f
   seen_more (below m) v f a = absurd f
 
   -- what a scope sees further on lies in the frame too
-  pub with_slot-fits : (s : Scope) (v : Slot) → InFrame s.locals → Small width (own_number v) → InFrame (with_slot s v).locals
+  pub with_slot-fits : (s : Scope) (v : Slot) → InFrame s.locals → Fits width (v ∷ []) → InFrame (with_slot s v).locals
   with_slot-fits s v f a = seen_more s.locals v f a
 
-  pub with_any-fits : (s : Scope) (v : Option (Placed Slot)) → InFrame s.locals → Small width (own_numbers v) → InFrame (with_any s v).locals
+  pub with_any-fits : (s : Scope) (v : Option (Placed Slot)) → InFrame s.locals → Fits width (any_name v) → InFrame (with_any s v).locals
   with_any-fits s None f a = f
   with_any-fits s (Some v) f a = with_slot-fits s v.name f a
 
-  pub after_key-fits : (s : Scope) (k : PlainGroupVar Slot Target SeqType) → InFrame s.locals → Small width (group_var_bindings k) → InFrame (after_key s k).locals
+  pub after_key-fits : (s : Scope) (k : PlainGroupVar Slot Target SeqType) → InFrame s.locals → Fits width (group_var_binders k) → InFrame (after_key s k).locals
   after_key-fits s (p.stream_group_var variable) f a = f
-  after_key-fits s (p.computed_group_var variable value) f a = with_slot-fits s variable.name f (small_parts (own_number variable.name) (bindings value) a).0
+  after_key-fits s (p.computed_group_var variable value) f a = with_slot-fits s variable.name f (fit_parts (variable.name ∷ []) (binders value) a).0
 
-  after_keys-fits : (s : Scope) (ks : PlainGroupVars Slot Target SeqType) → InFrame s.locals → Small width (group_vars_bindings ks) → InFrame (after_keys s ks).locals
+  after_keys-fits : (s : Scope) (ks : PlainGroupVars Slot Target SeqType) → InFrame s.locals → Fits width (group_vars_binders ks) → InFrame (after_keys s ks).locals
   after_keys-fits s p.no_group_vars f a = f
   after_keys-fits s (p.more_group_vars k ks) f a =
-      let parts = small_parts (group_var_bindings k) (group_vars_bindings ks) a in
+      let parts = fit_parts (group_var_binders k) (group_vars_binders ks) a in
       after_keys-fits (after_key s k) ks (after_key-fits s k f parts.0) parts.1
 
-  pub after_clause-fits : (s : Scope) (c : PlainClause Slot Target SeqType) → InFrame s.locals → Small width (clause_bindings c) → InFrame (after_clause s c).locals
+  pub after_clause-fits : (s : Scope) (c : PlainClause Slot Target SeqType) → InFrame s.locals → Fits width (clause_binders c) → InFrame (after_clause s c).locals
   after_clause-fits s (p.for_clause variable t allowing_empty position source) f a =
-      let own = small_parts (own_number variable.name) (own_numbers position) (small_parts (own_number variable.name ++ own_numbers position) (bindings source) a).0 in
+      let own = fit_parts (variable.name ∷ []) (any_name position) (fit_parts (variable.name ∷ [] ++ any_name position) (binders source) a).0 in
       with_any-fits (with_slot s variable.name) position (with_slot-fits s variable.name f own.0) own.1
-  after_clause-fits s (p.let_clause variable t value) f a = with_slot-fits s variable.name f (small_parts (own_number variable.name) (bindings value) a).0
+  after_clause-fits s (p.let_clause variable t value) f a = with_slot-fits s variable.name f (fit_parts (variable.name ∷ []) (binders value) a).0
   after_clause-fits s (p.keep_clause place test) f a = f
   after_clause-fits s (p.group_clause place keys) f a = after_keys-fits s keys f a
   after_clause-fits s (p.order_clause place stable keys) f a = f
   after_clause-fits s (p.count_clause place variable) f a = with_slot-fits s variable.name f a
 
-  pub after_clauses-fits : (s : Scope) (cs : PlainClauses Slot Target SeqType) → InFrame s.locals → Small width (clauses_bindings cs) → InFrame (after_clauses s cs).locals
+  pub after_clauses-fits : (s : Scope) (cs : PlainClauses Slot Target SeqType) → InFrame s.locals → Fits width (clauses_binders cs) → InFrame (after_clauses s cs).locals
   after_clauses-fits s p.no_clauses f a = f
   after_clauses-fits s (p.more_clauses c cs) f a =
-      let parts = small_parts (clause_bindings c) (clauses_bindings cs) a in
+      let parts = fit_parts (clause_binders c) (clauses_binders cs) a in
       after_clauses-fits (after_clause s c) cs (after_clause-fits s c f parts.0) parts.1
 
-  pub after_bind-fits : (s : Scope) (b : PlainBind Slot Target SeqType) → InFrame s.locals → Small width (bind_bindings b) → InFrame (after_bind s b).locals
-  after_bind-fits s (p.bind_node variable t source) f a = with_slot-fits s variable.name f (small_parts (own_number variable.name) (bindings source) a).0
+  pub after_bind-fits : (s : Scope) (b : PlainBind Slot Target SeqType) → InFrame s.locals → Fits width (bind_binders b) → InFrame (after_bind s b).locals
+  after_bind-fits s (p.bind_node variable t source) f a = with_slot-fits s variable.name f (fit_parts (variable.name ∷ []) (binders source) a).0
 
-  pub after_binds-fits : (s : Scope) (bs : PlainBinds Slot Target SeqType) → InFrame s.locals → Small width (binds_bindings bs) → InFrame (after_binds s bs).locals
+  pub after_binds-fits : (s : Scope) (bs : PlainBinds Slot Target SeqType) → InFrame s.locals → Fits width (binds_binders bs) → InFrame (after_binds s bs).locals
   after_binds-fits s p.no_binds f a = f
   after_binds-fits s (p.more_binds b bs) f a =
-      let parts = small_parts (bind_bindings b) (binds_bindings bs) a in
+      let parts = fit_parts (bind_binders b) (binds_binders bs) a in
       after_binds-fits (after_bind s b) bs (after_bind-fits s b f parts.0) parts.1
 
-  pub after_params-fits : (s : Scope) (qs : List (Param Slot SeqType)) → InFrame s.locals → Small width (params_bindings qs) → InFrame (after_params s qs).locals
+  pub after_params-fits : (s : Scope) (qs : List (Param Slot SeqType)) → InFrame s.locals → Fits width (params_binders qs) → InFrame (after_params s qs).locals
   after_params-fits s [] f a = f
   after_params-fits s (q ∷ qs) f a =
-      let parts = small_parts (own_number q.variable.name) (params_bindings qs) a in
+      let parts = fit_parts (q.variable.name ∷ []) (params_binders qs) a in
       after_params-fits (with_slot s q.variable.name) qs (with_slot-fits s q.variable.name f parts.0) parts.1
 
   -- over a frame nothing more is seen further on
@@ -160,11 +169,11 @@ module _ (width : ℕ) where
   after_binds-framed s (p.more_binds b bs) = ap (λ x. after_binds x bs) (after_bind-framed s b) ∙ after_binds-framed (after_bind s b) bs
 
   -- nor after parameters
-  pub params-framed : (s : Scope) → InFrame s.locals → (qs : List (Param Slot SeqType)) → params_bound s qs ≡ true → Small width (params_bindings qs) → params_bound (framed s) qs ≡ true
+  pub params-framed : (s : Scope) → InFrame s.locals → (qs : List (Param Slot SeqType)) → params_bound s qs ≡ true → Fits width (params_binders qs) → params_bound (framed s) qs ≡ true
   params-framed s f [] h a = refl
   params-framed s f (q ∷ qs) h a =
       let tests = and_parts (may_bind s q.variable.name) (params_bound (with_slot s q.variable.name) qs) h in
-      let parts = small_parts (own_number q.variable.name) (params_bindings qs) a in
+      let parts = fit_parts (q.variable.name ∷ []) (params_binders qs) a in
       both_true (slot-framed s q.variable.name tests.0 parts.0) (params-framed (with_slot s q.variable.name) (with_slot-fits s q.variable.name f parts.0) qs tests.1 parts.1)
 
   pub framed-after_params : (s : Scope) (qs : List (Param Slot SeqType)) → framed (after_params s qs) ≡ framed s

@@ -9,3 +9,6 @@ mod Maps
 mod NestingLaws
 pub mod NestingLists
 mod NestingRows
+pub mod SlotNumbers
+mod SpineLaws
+mod SpineRows

@@ -11,7 +11,8 @@ use Rattle.query_tree.specs.declared.module.Param.{Param}
 use Rattle.query_tree.specs.Modules.{PlainModule, PlainVariable, PlainFunction, module_of}
 use Rattle.query_tree.specs.Scopes.{Locals, these, below, Scope, may_bind, with_slot}
 use Rattle.query_tree.specs.Bound.{is_bound}
-use Rattle.query_tree.specs.Bindings.{bindings, own_number}
+use Rattle.query_tree.specs.Binders.{params_binders}
+use Rattle.query_tree.specs.Bindings.{numbers_of, bindings}
 
 -- the plain value of a compiled tree
 abbrev pub BoundTrees : Type 0
@@ -80,8 +81,7 @@ abbrev pub are_apart : ℕ → List ℕ → Bool
 are_apart width ns = list_all (λ n. nat_lt n width) ns && all_differ ns
 
 abbrev pub params_bindings : List (Param Slot SeqType) → List ℕ
-params_bindings [] = []
-params_bindings (q ∷ qs) = own_number q.variable.name ++ params_bindings qs
+params_bindings qs = numbers_of (params_binders qs)
 
 -- whether in each declaration, and in the body, the bindings have numbers of their own
 abbrev pub module_apart : ℕ → BoundTrees → Bool

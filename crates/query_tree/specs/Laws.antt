@@ -1,5 +1,5 @@
--- Laws of the nesting of trees.
-use Rattle.std.specs.Prelude.{◌≡◌, ℕ, ◌+◌, max, List, [], ◌∷◌, ◌++◌, Option, Some, None, map}
+-- Laws of the nesting and of the spine of trees.
+use Rattle.std.specs.Prelude.{◌≡◌, ℕ, ◌+◌, ◌*◌, ◌≤◌, max, true, List, [], ◌∷◌, ◌++◌, Option, Some, None, map}
 use Rattle.std.specs.declared.alloc.Global.{Global}
 use Rattle.std.specs.declared.boxed.Box.{Box}
 use Rattle.query_tree.specs.declared.names.Placed.{Placed}
@@ -8,7 +8,9 @@ use Rattle.query_tree.specs.declared.operator.Quantifier.{Quantifier}
 use Rattle.query_tree.specs.declared.operator.SumOp.{SumOp}
 use Rattle.query_tree.specs.Plain as p
 use Rattle.query_tree.specs.Plain.{PlainClause, PlainClauses, PlainGroupVar, PlainGroupVars, PlainOrderKey, PlainOrderKeys, PlainBind, PlainCase, PlainTypeCase, PlainCatch, PlainPair, PlainStep, PlainTerm, MaybeTree, Trees}
+use Rattle.query_tree.specs.Bound.{BoundTree}
 use Rattle.query_tree.specs.Nesting.{nesting, greatest, step_nesting}
+use Rattle.query_tree.specs.Spines.{spine, commas_apart}
 
 abbrev pub Name : Type 0
 Name = List ℕ
@@ -140,3 +142,11 @@ pub record NestingCountsForms : Type 0 where
   pub of_operator : (at : ℕ) (left : NamedTree) (ts : List (PlainTerm Name Name TypeName))
       → nesting (form_at at (p.sum_form left (p.terms_of Name Name TypeName ts)))
       ≡ greatest nesting (left ∷ joined term_trees ts)
+
+-- ---- what bounds the spine
+
+-- Each form that nests lets the spine grow by two at most: by itself, and by a comma in it. A comma
+-- may hold all. This holds of trees as they were read, and of compiled ones.
+pub record NestingBoundsSpines : Type 0 where
+  pub of_read : (t : NamedTree) → commas_apart t ≡ true → spine t ≤ 2 * nesting t + 1
+  pub of_compiled : (t : BoundTree) → commas_apart t ≡ true → spine t ≤ 2 * nesting t + 1

@@ -1,3 +1,4 @@
+pub mod Binders
 pub mod Bindings
 pub mod Bound
 pub mod Compiled
@@ -6,3 +7,4 @@ pub mod Modules
 pub mod Nesting
 pub mod Plain
 pub mod Scopes
+pub mod Spines

@@ -33,7 +33,7 @@ use Rattle.static_rules.specs.Mentions.{Mention, MentionAt, reads, reads_item, c
 use Rattle.static_rules.specs.declared.rules.Rule.{Rule}
 use Rattle.static_rules.specs.declared.rules.Rule.TheVariants.{UnboundVariable, UnknownFunction, UnknownCastType, NoStreamVariable, NoContextItem, UnnamedInput}
 use Rattle.static_rules.specs.Rules.{is_lines, is_built_in, is_empty_sequence, is_atomic_type, is_one_text, breaks}
-use Rattle.static_rules.specs.Binders
+use Rattle.query_tree.specs.Binders
 use Rattle.static_rules.specs.Compiling
 use Rattle.static_rules.specs.Compiling.{Names, slot_of, own_number, text_of, function_or_own, target_of, type_of, any_binding, past, compiled_trees, compiled_bind, compiled_binds, compiled_clause, compiled_clauses, compiled_group_var, compiled_group_vars, compiled_params, with_params}
 
@@ -132,8 +132,11 @@ room-more : (seen : Locals) (n : ℕ) → ((k : ℕ) → has_room seen k ≡ tru
 room-more (these ns) n h k = refl
 room-more (below width) n h k = h k
 
+pub itself : (n : ℕ) → (n == n) ≡ true
+itself n = grind (arith, nat_tests)
+
 own_seen : (seen : Locals) (n : ℕ) → ((k : ℕ) → has_room seen k ≡ true) → has_local (and_local seen (Local n)) n ≡ true
-own_seen (these ns) n h = let e : (n == n) ≡ true = grind (arith, nat_tests) in ap (λ b. b || has_local (these ns) n) e
+own_seen (these ns) n h = ap (λ b. b || has_local (these ns) n) (itself n)
 own_seen (below width) n h = h n
 
 still_seen : (seen : Locals) (n m : ℕ) → has_local seen m ≡ true → has_local (and_local seen (Local n)) m ≡ true

@@ -10,7 +10,7 @@ use Rattle.seq_types.specs.declared.types.SeqType.{SeqType}
 use Rattle.query_tree.specs.Plain as p
 use Rattle.query_tree.specs.Plain.{PlainBinds}
 use Rattle.static_rules.specs.Mentions.{binds_mentions, bind_mentions}
-use Rattle.static_rules.specs.Binders.{binds_binders, bind_binders}
+use Rattle.query_tree.specs.Binders.{binds_binders, bind_binders}
 use Rattle.static_rules.specs.Compiling.{past, compiled_binds, compiled_bind, after_bind, after_binds}
 use Rattle.static_rules.specs.Gathering.{Pushed}
 use Rattle.static_rules.specs.Walks.{State, view_of}

@@ -11,7 +11,7 @@ use Rattle.query_tree.specs.Plain.{PlainClauses}
 use Rattle.static_rules.specs.Views as views
 use Rattle.static_rules.specs.Views.{seeing}
 use Rattle.static_rules.specs.Mentions.{clauses_mentions, clause_mentions}
-use Rattle.static_rules.specs.Binders.{clauses_binders, clause_binders}
+use Rattle.query_tree.specs.Binders.{clauses_binders, clause_binders}
 use Rattle.static_rules.specs.Compiling.{past, compiled_clauses, compiled_clause, after_clause, after_clauses}
 use Rattle.static_rules.specs.Gathering.{Pushed}
 use Rattle.static_rules.specs.Walks.{State, view_of, bound_names}

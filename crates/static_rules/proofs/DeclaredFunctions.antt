@@ -17,12 +17,13 @@ use Rattle.static_rules.specs.declared.rules.Rule.TheVariants.{FunctionTwice}
 use Rattle.static_rules.specs.Views.{View, Callee, seeing, has_callee}
 use Rattle.static_rules.specs.Mentions.{MentionAt, mention_at, mentions, type_mentions, params_mentions, declares_function, callee_of, after_params}
 use Rattle.static_rules.specs.Rules.{is_lines, is_built_in}
-use Rattle.static_rules.specs.Binders.{binders}
+use Rattle.query_tree.specs.Binders.{binders}
 use Rattle.static_rules.specs.Compiling.{Names, past, compiled, compiled_params, placed_type, with_slot, with_params, function_width}
 use Rattle.static_rules.specs.Walks.{State, passed, tested, view_of, bound_names}
 use Rattle.static_rules.specs.Openings.{Extends, entered, closed}
 use Rattle.static_rules.specs.Behind.{stream_of}
-use Rattle.static_rules.specs.Declarations.{function_mentions, compiled_function, begun, declared, param_names, behind_params, earlier_functions, behind_function}
+use Rattle.query_tree.specs.Binders.{params_binders}
+use Rattle.static_rules.specs.Declarations.{function_mentions, compiled_function, begun, declared, behind_params, earlier_functions, behind_function}
 use Rattle.static_rules.proofs.Passing.{passed-names, passed-number, passed-passed, passed-test}
 use Rattle.static_rules.proofs.Scoping.{extends-none, extends-one, extends-trans, entered-names, entered-number, closed-entered}
 use Rattle.static_rules.proofs.Declaring.{begun-names, begun-number, passed-begun}
@@ -82,26 +83,26 @@ module _ (s begins tests entry typed : State) (twice : Bool) (number depth : ℕ
   test-number : tests.number ≡ 0
   test-number = ap (λ t. t.number) at-test ∙ passed-number (begun s) named [] ∙ ap (λ n. past {V = List ℕ} n []) (begun-number s)
 
-  at-entry : entry ≡ entered tests (params_mentions [] f.params) (param_names f.params) (with_params s.names 0 f.params)
+  at-entry : entry ≡ entered tests (params_mentions [] f.params) (params_binders f.params) (with_params s.names 0 f.params)
   at-entry =
       e4
       ∙ ap (λ d. behind_params tests d f.params) deep
-      ∙ ap (λ n. entered tests (params_mentions (stream_of (length s.names.variables) n) f.params) (param_names f.params) (with_params n tests.number f.params)) test-names
-      ∙ ap (λ names. entered tests (params_mentions names f.params) (param_names f.params) (with_params s.names tests.number f.params)) (stream-none s.names)
-      ∙ ap (λ k. entered tests (params_mentions [] f.params) (param_names f.params) (with_params s.names k f.params)) test-number
+      ∙ ap (λ n. entered tests (params_mentions (stream_of (length s.names.variables) n) f.params) (params_binders f.params) (with_params n tests.number f.params)) test-names
+      ∙ ap (λ names. entered tests (params_mentions names f.params) (params_binders f.params) (with_params s.names tests.number f.params)) (stream-none s.names)
+      ∙ ap (λ k. entered tests (params_mentions [] f.params) (params_binders f.params) (with_params s.names k f.params)) test-number
 
   typed-names : typed.names ≡ with_params s.names 0 f.params
   typed-names =
       ap (λ t. t.names) e5 ∙ passed-names entry (type_mentions f.type) [] ∙ ap (λ t. t.names) at-entry
-      ∙ entered-names tests (params_mentions [] f.params) (param_names f.params) (with_params s.names 0 f.params)
+      ∙ entered-names tests (params_mentions [] f.params) (params_binders f.params) (with_params s.names 0 f.params)
 
   typed-number : typed.number ≡ length f.params
   typed-number =
-      let k : entry.number ≡ past 0 (param_names f.params) =
+      let k : entry.number ≡ past 0 (params_binders f.params) =
       ap (λ t. t.number) at-entry
-      ∙ entered-number tests (params_mentions [] f.params) (param_names f.params) (with_params s.names 0 f.params)
-      ∙ ap (λ n. past n (param_names f.params)) test-number in
-      let n : length (param_names f.params) ≡ length f.params = length-map f.params (λ q. q.variable.name) in
+      ∙ entered-number tests (params_mentions [] f.params) (params_binders f.params) (with_params s.names 0 f.params)
+      ∙ ap (λ n. past n (params_binders f.params)) test-number in
+      let n : length (params_binders f.params) ≡ length f.params = length-map f.params (λ q. q.variable.name) in
       ap (λ t. t.number) e5 ∙ passed-number entry (type_mentions f.type) [] ∙ omega arith
 
   pub function-walk : (walked ends : State) → walked ≡ passed typed (mentions (view_of false typed.names) f.body) (binders f.body) → ends ≡ closed walked depth → ends ≡ behind_function s number f
@@ -112,7 +113,7 @@ module _ (s begins tests entry typed : State) (twice : Bool) (number depth : ℕ
       let inner = with_params s.names 0 f.params in
       let seen = seeing (view_of false s.names) (after_params (bound_names s.names.variables) f.params) in
       let ms = mentions seen f.body in
-      let names = param_names f.params in
+      let names = params_binders f.params in
       let bs = binders f.body in
       let wide : length (names ++ bs) ≡ function_width f = length-append names bs ∙ ap (λ n. n + length bs) (length-map f.params (λ q. q.variable.name)) in
       let inside : walked ≡ passed (entered tests ps names inner) (ts ++ ms) bs =

@@ -12,7 +12,7 @@ use Rattle.seq_types.specs.declared.types.SeqType.{SeqType}
 use Rattle.static_rules.specs.declared.rules.Rule.TheVariants.{VariableTwice}
 use Rattle.static_rules.specs.Views.{has_name}
 use Rattle.static_rules.specs.Mentions.{mention_at, mentions, type_mentions, declares_variable}
-use Rattle.static_rules.specs.Binders.{binders}
+use Rattle.query_tree.specs.Binders.{binders}
 use Rattle.static_rules.specs.Compiling.{past, compiled, placed_type}
 use Rattle.static_rules.specs.Walks.{State, passed, tested, view_of, bound_names}
 use Rattle.static_rules.specs.Declarations.{variable_mentions, compiled_variable, begun, bound_global, behind_variable}

@@ -6,7 +6,7 @@ use Rattle.query_tree.specs.Plain.{PlainClauses}
 use Rattle.static_rules.specs.Views as views
 use Rattle.static_rules.specs.Views.{NamedTree, seeing}
 use Rattle.static_rules.specs.Mentions.{MentionAt, mentions, clauses_mentions}
-use Rattle.static_rules.specs.Binders.{binders, clauses_binders}
+use Rattle.query_tree.specs.Binders.{binders, clauses_binders}
 use Rattle.static_rules.specs.Compiling.{Names, with_slot, after_clauses}
 use Rattle.static_rules.specs.Walks.{State, view_of, bound_names, passed, sooner, first_of}
 use Rattle.static_rules.specs.Openings.{opened, closed, entered}

@@ -12,7 +12,7 @@ use Rattle.query_tree.specs.Plain.{PlainGroupVar, PlainGroupVars}
 use Rattle.static_rules.specs.Views as views
 use Rattle.static_rules.specs.Views.{seeing}
 use Rattle.static_rules.specs.Mentions.{group_vars_mentions, group_var_mentions}
-use Rattle.static_rules.specs.Binders.{group_vars_binders, group_var_binders}
+use Rattle.query_tree.specs.Binders.{group_vars_binders, group_var_binders}
 use Rattle.static_rules.specs.Compiling.{Names, past, compiled_group_vars, compiled_group_var, after_key, after_keys}
 use Rattle.static_rules.specs.Gathering.{Pushed}
 use Rattle.static_rules.specs.Walks.{State, view_of, bound_names}

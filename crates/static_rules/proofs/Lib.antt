@@ -1,9 +1,12 @@
 pub mod EarliestRefusals
 mod Agreement
+mod KeptSpines
+mod Nestings
 mod Numbers
 mod Rows
 mod Scoped
 mod Sound
+mod TextOrder
 pub mod Parts
 pub mod Passing
 pub mod Stacking

@@ -15,7 +15,8 @@ use Rattle.static_rules.specs.Compiling.{Names, with_slot, with_params, placed_t
 use Rattle.static_rules.specs.Walks.{State, bound_names, passed, tested, sooner, first_of}
 use Rattle.static_rules.specs.Openings.{entered, opened}
 use Rattle.static_rules.specs.Behind.{stream_of}
-use Rattle.static_rules.specs.Declarations.{param_mentions, param_names, compiled_param, behind_param, behind_params}
+use Rattle.query_tree.specs.Binders.{params_binders}
+use Rattle.static_rules.specs.Declarations.{param_mentions, compiled_param, behind_param, behind_params}
 use Rattle.static_rules.proofs.Passing.{passed-number, passed-passed, passed-test}
 use Rattle.static_rules.proofs.Scoping.{entered-names, entered-number, entered-entered, entered-none}
 
@@ -73,10 +74,10 @@ params-step base old all now next out q rest y h made walked =
       longer = subst (λ t. base ≤ length t.names.variables) (sym walked) (subst (λ n. base ≤ length n.variables) (sym same) (longer-param base now.names name (Local now.number) h.longer));
       walk =
           ap (λ t. behind_params t base rest) walked
-          ∙ ap (λ n. entered s (params_mentions (stream_of base n) rest) (param_names rest) (with_params n s.number rest)) same
-          ∙ ap (λ k. entered s (params_mentions (stream_of base names) rest) (param_names rest) (with_params names k rest)) count
-          ∙ ap (λ b. entered s (params_mentions b rest) (param_names rest) (with_params names (now.number + 1) rest)) (stream-param base now.names name (Local now.number) h.longer)
-          ∙ entered-entered now (param_mentions stream q) (params_mentions (name ∷ stream) rest) (name ∷ []) (param_names rest) names (with_params names (now.number + 1) rest)
+          ∙ ap (λ n. entered s (params_mentions (stream_of base n) rest) (params_binders rest) (with_params n s.number rest)) same
+          ∙ ap (λ k. entered s (params_mentions (stream_of base names) rest) (params_binders rest) (with_params names k rest)) count
+          ∙ ap (λ b. entered s (params_mentions b rest) (params_binders rest) (with_params names (now.number + 1) rest)) (stream-param base now.names name (Local now.number) h.longer)
+          ∙ entered-entered now (param_mentions stream q) (params_mentions (name ∷ stream) rest) (name ∷ []) (params_binders rest) names (with_params names (now.number + 1) rest)
           ∙ h.walk;
       tree =
           append_assoc out (y ∷ []) (compiled_params next.number rest)

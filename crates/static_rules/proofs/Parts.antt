@@ -18,7 +18,7 @@ use Rattle.seq_types.specs.declared.types.SeqType.{SeqType}
 use Rattle.query_tree.specs.Plain as p
 use Rattle.query_tree.specs.Plain.{PlainOperands, PlainTerms, PlainFactors, Trees, PlainCases, PlainTypeCases, PlainCatches, PlainPairs, PlainSteps, PlainOrderKeys}
 use Rattle.static_rules.specs.Mentions.{operands_mentions, operand_mentions, terms_mentions, term_mentions, factors_mentions, factor_mentions, trees_mentions, mentions, cases_mentions, case_mentions, type_cases_mentions, type_case_mentions, catches_mentions, catch_mentions, pairs_mentions, pair_mentions, steps_mentions, step_mentions, order_keys_mentions, order_key_mentions}
-use Rattle.static_rules.specs.Binders.{operands_binders, operand_binders, terms_binders, term_binders, factors_binders, factor_binders, trees_binders, binders, cases_binders, case_binders, type_cases_binders, type_case_binders, catches_binders, catch_binders, pairs_binders, pair_binders, steps_binders, step_binders, order_keys_binders, order_key_binders}
+use Rattle.query_tree.specs.Binders.{operands_binders, operand_binders, terms_binders, term_binders, factors_binders, factor_binders, trees_binders, binders, cases_binders, case_binders, type_cases_binders, type_case_binders, catches_binders, catch_binders, pairs_binders, pair_binders, steps_binders, step_binders, order_keys_binders, order_key_binders}
 use Rattle.static_rules.specs.Compiling.{past, compiled_operands, compiled_operand, compiled_terms, compiled_term, compiled_factors, compiled_factor, compiled_trees, compiled, compiled_cases, compiled_case, compiled_type_cases, compiled_type_case, compiled_catches, compiled_catch, compiled_pairs, compiled_pair, compiled_steps, compiled_step, compiled_order_keys, compiled_order_key}
 use Rattle.static_rules.specs.Gathering.{Pushed}
 use Rattle.static_rules.specs.Walks.{State, view_of, passed}

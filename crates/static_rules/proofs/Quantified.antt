@@ -5,7 +5,7 @@ use Rattle.query_tree.specs.Plain.{PlainBinds}
 use Rattle.static_rules.specs.Views as views
 use Rattle.static_rules.specs.Views.{NamedTree, View, seeing}
 use Rattle.static_rules.specs.Mentions.{MentionAt, mentions, binds_mentions}
-use Rattle.static_rules.specs.Binders.{binders, binds_binders}
+use Rattle.query_tree.specs.Binders.{binders, binds_binders}
 use Rattle.static_rules.specs.Compiling.{Names, after_binds}
 use Rattle.static_rules.specs.Walks.{State, view_of, bound_names, passed}
 use Rattle.static_rules.specs.Openings.{closed}

@@ -12,7 +12,7 @@ use Rattle.seq_types.specs.declared.types.SeqType.{SeqType}
 use Rattle.static_rules.specs.Views.{View, NamedQuery}
 use Rattle.static_rules.specs.Mentions.{MentionAt, mentions, variables_mentions, functions_mentions, after_variables, callee_of, body_view}
 use Rattle.static_rules.specs.Refusals.{refusal}
-use Rattle.static_rules.specs.Binders.{binders}
+use Rattle.query_tree.specs.Binders.{binders}
 use Rattle.static_rules.specs.Compiling.{Names, compiled, compiled_variables, compiled_functions, compiled_query, globals_after, body_names, variable_width, function_width, greatest, query_width}
 use Rattle.static_rules.specs.Walks.{State, passed, view_of, bound_names, first_of}
 use Rattle.static_rules.specs.Declarations.{started, declared, with_functions, behind_variables, behind_functions}

@@ -13,12 +13,12 @@ use Rattle.static_rules.specs.declared.rules.Rule.TheVariants.{PositionTwice}
 use Rattle.static_rules.specs.Views as views
 use Rattle.static_rules.specs.Views.{View, Callee, seeing, and_any}
 use Rattle.static_rules.specs.Mentions.{MentionAt, mention_at, counts_positions}
-use Rattle.static_rules.specs.Binders as binders
-use Rattle.static_rules.specs.Binders.{any_name}
+use Rattle.query_tree.specs.Binders as binders
+use Rattle.query_tree.specs.Binders.{any_name}
 use Rattle.static_rules.specs.Compiling.{Names, past, with_slot, with_any, after_keys, after_clause, after_clauses, after_binds}
 use Rattle.static_rules.specs.Openings.{Extends, opened, opened_any, numbered, bound_to, bound_for, closed, entered}
 use Rattle.static_rules.specs.Walks.{State, passed, tested, sooner, first_of, bound_names, view_of}
-use Rattle.static_rules.proofs.Passing.{passed-none, passed-passed, passed-test, sooner-none}
+use Rattle.static_rules.proofs.Passing.{passed-none, passed-passed, passed-test}
 
 pub opened-names : (s : State) (name : List ℕ) → (opened s name).names ≡ with_slot s.names name (Local s.number)
 unfolding opened

@@ -18,11 +18,12 @@ use Rattle.static_rules.specs.Views.{NamedQuery, Callee, View, has_name, has_cal
 use Rattle.static_rules.specs.Mentions.{MentionAt, mention_at, declares_variable, declares_function, type_mentions, mentions, callee_of, after_params, params_mentions, variables_mentions, functions_mentions, after_variables, body_view, query_mentions}
 use Rattle.static_rules.specs.Rules.{breaks}
 use Rattle.static_rules.specs.declared.rules.Rule.{Rule}
-use Rattle.static_rules.specs.Binders
-use Rattle.static_rules.specs.Compiling.{Names, slot_in, own_number, compiled, globals_after, compiled_variables, compiled_params, with_params, compiled_functions, body_names, compiled_query, variable_width, function_width, greatest, query_width, AcceptedQueriesPass}
+use Rattle.query_tree.specs.Binders
+use Rattle.static_rules.specs.Compiling.{Names, slot_in, own_number, globals_after, compiled_variables, compiled_params, compiled_functions, body_names, compiled_query, variable_width, function_width, greatest, query_width, AcceptedQueriesPass}
 use Rattle.static_rules.proofs.EarliestRefusals.{refusals_exact}
-use Rattle.static_rules.proofs.Numbers.{count_from, Counted, none, more, joined, tree-counted, counted-apart}
-use Rattle.static_rules.proofs.Agreement.{Kept, Clean, clean_parts, Agrees, with_slot-agrees, after_params-agrees, slot_bound}
+use Rattle.static_rules.proofs.Numbers.{tree-counted, counted-apart}
+use Rattle.static_rules.proofs.TextOrder.{variable-numbers, function-numbers}
+use Rattle.static_rules.proofs.Agreement.{itself, Kept, Clean, clean_parts, Agrees, with_slot-agrees, after_params-agrees, slot_bound}
 use Rattle.static_rules.proofs.Scoped.{tree-passes}
 
 -- where no rule is broken at any place, no mention breaks one
@@ -70,9 +71,6 @@ variable-agrees names seen number d = record {
   calls = λ name arity h. absurd (false≢true h);
   item = λ h. absurd (false≢true h);
 }
-
-itself : (n : ℕ) → (n == n) ≡ true
-itself n = grind (arith, nat_tests)
 
 variables-pass : (names : List (List ℕ × Slot)) (seen : List (List ℕ)) (number : ℕ) → Declared names seen number → (xs : List (PlainVariable (List ℕ) (List ℕ) TypeName)) → Clean (variables_mentions seen xs) → variables_bound (these []) number (compiled_variables names number xs) ≡ true
 variables-pass names seen number d [] h = refl
@@ -154,20 +152,13 @@ functions-pass number earlier {v = v} a (f ∷ fs) h =
 variables-apart : (width : ℕ) (names : List (List ℕ × Slot)) (number : ℕ) (xs : List (PlainVariable (List ℕ) (List ℕ) TypeName)) → greatest (map variable_width xs) ≤ width → list_all (λ x. are_apart width (bindings x.value)) (compiled_variables names number xs) ≡ true
 variables-apart width names number [] h = refl
 variables-apart width names number (x ∷ xs) h =
-    let here = counted-apart width (length (Binders.binders x.value)) (tree-counted (record { variables = names; functions = [] }) 0 x.value).all (omega arith) in
+    let here = counted-apart width (variable_width x) (variable-numbers names x) (omega arith) in
     both_true here (variables-apart width ((x.variable.name, Global number) ∷ names) (number + 1) xs (omega arith))
-
-params-counted : (n : ℕ) (qs : List (Param (List ℕ) TypeName)) → Counted n qs (params_bindings (compiled_params n qs))
-params-counted n [] = none n
-params-counted n (q ∷ qs) = more q (params-counted (n + 1) qs)
 
 functions-apart : (width : ℕ) (s : Names) (number : ℕ) (fs : List (PlainFunction (List ℕ) (List ℕ) TypeName)) → greatest (map function_width fs) ≤ width → list_all (λ f. are_apart width (params_bindings f.params ++ bindings f.body)) (compiled_functions s number fs) ≡ true
 functions-apart width s number [] h = refl
 functions-apart width s number (f ∷ fs) h =
-    let arity = length f.params in
-    let count = length (Binders.binders f.body) in
-    let body : bindings (compiled (with_params s 0 f.params) arity f.body) ≡ count_from (0 + arity) count = (tree-counted (with_params s 0 f.params) arity f.body).all ∙ ap (λ n. count_from n count) (omega arith) in
-    let here = counted-apart width (arity + count) (joined 0 arity count (params-counted 0 f.params).all body) (omega arith) in
+    let here = counted-apart width (function_width f) (function-numbers s f) (omega arith) in
     both_true here (functions-apart width s (number + 1) fs (omega arith))
 
 pub accepted_queries : AcceptedQueriesPass

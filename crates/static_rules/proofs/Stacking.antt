@@ -9,10 +9,9 @@ use Rattle.static_rules.specs.declared.rules.Rule.TheVariants.{UnboundVariable, 
 use Rattle.static_rules.specs.declared.walk.Binding.{Binding}
 use Rattle.static_rules.specs.Views.{has_name}
 use Rattle.static_rules.specs.Mentions.{mention_at, reads, groups_by}
-use Rattle.static_rules.specs.Compiling.{Names, slot_in}
+use Rattle.static_rules.specs.Compiling.{slot_in}
 use Rattle.static_rules.proofs.Passing.{passed-test}
 use Rattle.static_rules.specs.Walks.{State, passed, bound_names, slot_found, tested}
-use Rattle.static_rules.specs.Behind.{stream_of, below}
 use Rattle.static_rules.specs.Stacks.{binding_of, bindings_of}
 
 -- what is cut off the end of a stack is what stands at the front of its bindings

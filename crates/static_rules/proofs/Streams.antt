@@ -7,7 +7,7 @@ use Rattle.query_tree.specs.Plain as p
 use Rattle.query_tree.specs.Plain.{PlainClause, PlainClauses, PlainGroupVar, PlainGroupVars}
 use Rattle.static_rules.specs.Views as views
 use Rattle.static_rules.specs.Views.{View, seeing}
-use Rattle.static_rules.specs.Binders as binders
+use Rattle.query_tree.specs.Binders as binders
 use Rattle.static_rules.specs.Compiling.{Names, past, with_slot, after_key, after_keys, after_clause, after_clauses}
 use Rattle.static_rules.specs.Walks.{view_of, bound_names}
 use Rattle.static_rules.specs.Behind.{stream_of, below}

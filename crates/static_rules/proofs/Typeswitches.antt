@@ -5,7 +5,7 @@ use Rattle.query_tree.specs.declared.names.TypeName.{TypeName}
 use Rattle.query_tree.specs.Plain.{PlainTypeCases}
 use Rattle.static_rules.specs.Views.{NamedTree, seeing, and_any}
 use Rattle.static_rules.specs.Mentions.{mentions, type_cases_mentions}
-use Rattle.static_rules.specs.Binders.{binders, type_cases_binders, any_name}
+use Rattle.query_tree.specs.Binders.{binders, type_cases_binders, any_name}
 use Rattle.static_rules.specs.Compiling.{Names}
 use Rattle.static_rules.specs.Walks.{State, view_of, bound_names, passed}
 use Rattle.static_rules.specs.Sources.{behind_tree, behind_type_cases}

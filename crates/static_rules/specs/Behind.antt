@@ -3,7 +3,7 @@ use Rattle.std.specs.Prelude.{ℕ, ◌-◌, Bool, List, length, take, drop}
 use Rattle.query_tree.specs.declared.names.TypeName.{TypeName}
 use Rattle.query_tree.specs.Plain.{PlainBind, PlainBinds, PlainClause, PlainClauses, PlainGroupVar, PlainGroupVars}
 use Rattle.static_rules.specs.Mentions.{bind_mentions, binds_mentions, clause_mentions, clauses_mentions, group_var_mentions, group_vars_mentions}
-use Rattle.static_rules.specs.Binders.{bind_binders, binds_binders, clause_binders, clauses_binders, group_var_binders, group_vars_binders}
+use Rattle.query_tree.specs.Binders.{bind_binders, binds_binders, clause_binders, clauses_binders, group_var_binders, group_vars_binders}
 use Rattle.static_rules.specs.Compiling.{Names, after_bind, after_binds, after_clause, after_clauses, after_key, after_keys}
 use Rattle.static_rules.specs.Walks.{State, view_of, bound_names}
 use Rattle.static_rules.specs.Openings.{entered}

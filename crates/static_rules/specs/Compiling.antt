@@ -25,7 +25,7 @@ use Rattle.static_rules.specs.Views.{NamedTree, NamedTrees, NamedQuery, Callee, 
 use Rattle.static_rules.specs.Mentions.{callee_of}
 use Rattle.static_rules.specs.Rules.{is_lines, is_empty_sequence}
 use Rattle.static_rules.specs.Refusals.{refusal}
-use Rattle.static_rules.specs.Binders
+use Rattle.query_tree.specs.Binders
 
 -- the variables that are bound where an expression stands, the latest first, and the declared
 -- functions

@@ -8,6 +8,7 @@ use Rattle.query_tree.specs.declared.module.Variable.{Variable}
 use Rattle.query_tree.specs.declared.module.Function.{Function}
 use Rattle.query_tree.specs.declared.module.Param.{Param}
 use Rattle.query_tree.specs.declared.names.TypeName.{TypeName}
+use Rattle.query_tree.specs.Binders.{params_binders}
 use Rattle.query_tree.specs.Modules.{PlainVariable, PlainFunction, variable_of, function_of}
 use Rattle.seq_types.specs.declared.types.SeqType.{SeqType}
 use Rattle.static_rules.specs.Views.{View, Callee, seeing}
@@ -111,12 +112,9 @@ behind_param s base q =
     entered s (param_mentions (stream_of base s.names) q) (q.variable.name ∷ [])
     (with_slot s.names q.variable.name (Local s.number))
 
-abbrev pub param_names : List (Param (List ℕ) TypeName) → List (List ℕ)
-param_names qs = map (λ q. q.variable.name) qs
-
 abbrev pub behind_params : State → ℕ → List (Param (List ℕ) TypeName) → State
 behind_params s base qs =
-    entered s (params_mentions (stream_of base s.names) qs) (param_names qs)
+    entered s (params_mentions (stream_of base s.names) qs) (params_binders qs)
     (with_params s.names s.number qs)
 
 -- the function has this number, so those with lower numbers stand before it

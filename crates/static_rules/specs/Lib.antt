@@ -2,7 +2,6 @@ pub mod Views
 pub mod Mentions
 pub mod Rules
 pub mod Refusals
-pub mod Binders
 pub mod Compiling
 pub mod Walks
 pub mod Sources
@@ -14,3 +13,4 @@ pub mod Stacks
 pub mod Declarations
 pub mod Faults
 pub mod Outcomes
+pub mod Laws

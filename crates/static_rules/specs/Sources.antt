@@ -26,7 +26,7 @@ use Rattle.query_tree.specs.Plain.{Form, Tree, Trees, MaybeTree, PlainLookup, Pl
 use Rattle.query_tree.specs.Bound.{BoundTree}
 use Rattle.static_rules.specs.Views.{NamedTree}
 use Rattle.static_rules.specs.Mentions.{mentions, form_mentions, content_mentions, lookup_mentions, operands_mentions, terms_mentions, factors_mentions, trees_mentions, cases_mentions, type_cases_mentions, catches_mentions, pairs_mentions, steps_mentions, order_keys_mentions, operand_mentions, term_mentions, factor_mentions, case_mentions, type_case_mentions, catch_mentions, pair_mentions, step_mentions, order_key_mentions}
-use Rattle.static_rules.specs.Binders.{binders, form_binders, content_binders, lookup_binders, operands_binders, terms_binders, factors_binders, trees_binders, cases_binders, type_cases_binders, catches_binders, pairs_binders, steps_binders, order_keys_binders, operand_binders, term_binders, factor_binders, case_binders, type_case_binders, catch_binders, pair_binders, step_binders, order_key_binders}
+use Rattle.query_tree.specs.Binders.{binders, form_binders, content_binders, lookup_binders, operands_binders, terms_binders, factors_binders, trees_binders, cases_binders, type_cases_binders, catches_binders, pairs_binders, steps_binders, order_keys_binders, operand_binders, term_binders, factor_binders, case_binders, type_case_binders, catch_binders, pair_binders, step_binders, order_key_binders}
 use Rattle.static_rules.specs.Walks.{State, view_of, passed}
 
 abbrev pub named_tree : Expr (List ℕ) (List ℕ) TypeName → NamedTree

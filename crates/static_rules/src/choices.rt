@@ -3,7 +3,7 @@
 ghost use Rattle.std.specs.Prelude.{◌≡◌, ◌++◌, IfOk, OnOk};
 ghost use Rattle.static_rules.specs.Views.{seeing, and_any};
 ghost use Rattle.static_rules.specs.Mentions.{mentions};
-ghost use Rattle.static_rules.specs.Binders.{binders, any_name};
+ghost use Rattle.query_tree.specs.Binders.{binders, any_name};
 ghost use Rattle.static_rules.specs.Walks.{view_of, bound_names, passed};
 ghost use Rattle.query_tree.specs.Plain.{try_form, typeswitch_form, switch_form, if_form};
 ghost use Rattle.static_rules.specs.Compiling.{past, with_any, any_binding, compiled_catches, compiled_catch, compiled_type_cases, compiled_type_case, compiled, compiled_form, compiled_cases, compiled_case};

@@ -3,7 +3,7 @@
 ghost use Rattle.std.specs.Prelude.{◌≡◌, ◌≤◌, ◌+◌, ◌∷◌, ◌++◌, true, option_map, length, IfOk, OnOk};
 ghost use Rattle.query_tree.specs.Plain.{flwor_form, for_clause, let_clause, keep_clause, group_clause, order_clause, count_clause, stream_group_var, computed_group_var};
 ghost use Rattle.static_rules.specs.Mentions.{type_mentions, mentions};
-ghost use Rattle.static_rules.specs.Binders.{binders};
+ghost use Rattle.query_tree.specs.Binders.{binders};
 ghost use Rattle.static_rules.specs.Walks.{view_of};
 ghost use Rattle.static_rules.specs.Openings.{entered};
 ghost use Rattle.static_rules.specs.Behind.{below, behind_clause, behind_clauses, behind_key, behind_keys};

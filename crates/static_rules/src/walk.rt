@@ -2,7 +2,7 @@ ghost use Rattle.std.specs.Prelude.{◌≡◌, ℕ, ◌+◌, ◌-◌, ◌≤◌,
 ghost use Rattle.query_tree.specs.declared.bound.Slot.TheVariants.{Local};
 ghost use Rattle.query_tree.specs.declared.bound.Target.TheVariants.{Own};
 ghost use Rattle.static_rules.specs.Mentions.{mention_at, reads, reads_item, has_type, casts_to, calls, groups_by, position_mentions};
-ghost use Rattle.static_rules.specs.Binders.{any_name};
+ghost use Rattle.query_tree.specs.Binders.{any_name};
 ghost use Rattle.static_rules.specs.Compiling.{slot_of, with_slot, placed_type, any_binding, target_of, function_or_own, own_number};
 ghost use Rattle.static_rules.specs.Walks.{State, bound_names, sooner, passed, tested, slot_found};
 ghost use Rattle.item_tree.specs.Functions.{function_named};

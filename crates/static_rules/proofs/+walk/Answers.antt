@@ -1,6 +1,6 @@
-use Rattle.std.proofs.Common.{◌≡◌, IfOk, OnOk, sym, ap, subst, ◌∙◌}
+use Rattle.std.proofs.Common.{◌≡◌, IfOk, OnOk, sym, subst, ◌∙◌}
 use Rattle.static_rules.specs.Mentions.{group_vars_mentions}
-use Rattle.static_rules.specs.Binders.{group_vars_binders}
+use Rattle.query_tree.specs.Binders.{group_vars_binders}
 use Rattle.static_rules.specs.Compiling.{compiled_form, compiled_group_vars, after_keys}
 use Rattle.static_rules.specs.Sources.{bound_form, behind_form, named_tree, named_type_cases, named_binds, named_clauses, named_group_vars, bound_group_vars}
 use Rattle.static_rules.specs.Walks.{view_of}

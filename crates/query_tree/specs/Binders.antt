@@ -1,5 +1,6 @@
--- The variables that an expression binds, in text order.
-use Rattle.std.specs.Prelude.{List, [], ◌∷◌, ◌++◌, Option, Some, None}
+-- The variables that an expression, and the parameters of a function, bind, in text order.
+use Rattle.std.specs.Prelude.{List, [], ◌∷◌, ◌++◌, map, Option, Some, None}
+use Rattle.query_tree.specs.declared.module.Param.{Param}
 use Rattle.query_tree.specs.declared.names.Placed.{Placed}
 use Rattle.query_tree.specs.Plain as p
 use Rattle.query_tree.specs.Plain.{Tree, Trees, Form, MaybeTree, PlainOperand, PlainOperands, PlainTerm, PlainTerms, PlainFactor, PlainFactors, PlainBind, PlainBinds, PlainCase, PlainCases, PlainTypeCase, PlainTypeCases, PlainCatch, PlainCatches, PlainPair, PlainPairs, PlainStep, PlainSteps, PlainLookup, PlainClause, PlainClauses, PlainGroupVar, PlainGroupVars, PlainOrderKey, PlainOrderKeys}
@@ -7,6 +8,9 @@ use Rattle.query_tree.specs.Plain.{Tree, Trees, Form, MaybeTree, PlainOperand, P
 abbrev pub any_name : {V : Type 0} → Option (Placed V) → List V
 any_name None = []
 any_name (Some x) = x.name ∷ []
+
+abbrev pub params_binders : {V T : Type 0} → List (Param V T) → List V
+params_binders qs = map (λ q. q.variable.name) qs
 
 abbrev mutual
   pub binders : {V F T : Type 0} → Tree V F T → List V
