@@ -163,13 +163,16 @@ too_many = refl
 any_number : passes 0 (call (Built Concat) (one ∷ one ∷ one ∷ [])) ≡ true
 any_number = refl
 
-no_input : passes 0 (call (Lines (codes "a")) []) ≡ false
+no_input : passes 0 (call (Lines (codes "a" ∷ [])) []) ≡ false
 no_input = refl
 
-one_input : passes 0 (call (Lines (codes "a")) (one ∷ [])) ≡ true
+one_input : passes 0 (call (Lines (codes "a" ∷ [])) (one ∷ [])) ≡ true
 one_input = refl
 
-two_inputs : passes 0 (call (Lines (codes "a")) (one ∷ one ∷ [])) ≡ false
+one_name : passes 0 (call (Lines (codes "a" ∷ [])) (one ∷ one ∷ [])) ≡ false
+one_name = refl
+
+two_inputs : passes 0 (call (Lines (codes "a" ∷ codes "a" ∷ [])) (one ∷ one ∷ [])) ≡ true
 two_inputs = refl
 
 undeclared : passes 0 (call (Own 0) []) ≡ false

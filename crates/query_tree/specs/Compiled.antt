@@ -28,7 +28,7 @@ is_global number (Local n) = false
 abbrev pub is_own : ℕ → Target → Bool
 is_own number (Own n) = n == number
 is_own number (Built id) = false
-is_own number (Lines name) = false
+is_own number (Lines names) = false
 
 -- what a declared variable sees: the variables before it, and no declared function
 abbrev pub variable_scope : Locals → ℕ → Scope

@@ -1,5 +1,5 @@
 -- What an expression of a compiled tree may use where it stands.
-use Rattle.std.specs.Prelude.{ℕ, ◌==◌, nat_lt, Bool, true, false, ◌&&◌, Option, Some, None, List, ◌∷◌, slice_get}
+use Rattle.std.specs.Prelude.{ℕ, ◌==◌, nat_lt, Bool, true, false, ◌&&◌, Option, Some, None, List, ◌∷◌, length, slice_get}
 use Rattle.std.specs.List.{list_any}
 use Rattle.item_tree.specs.Functions.{takes_arity}
 use Rattle.seq_types.specs.declared.types.SeqType.{SeqType}
@@ -76,7 +76,7 @@ is_count (Some n) count = n == count
 abbrev pub may_call : Scope → Target → ℕ → Bool
 may_call s (Built id) count = takes_arity id count
 may_call s (Own n) count = is_count (slice_get s.functions n) count
-may_call s (Lines name) count = count == 1
+may_call s (Lines names) count = count == length names
 
 abbrev pub is_atomic_name : ItemType → Bool
 is_atomic_name Text = true

@@ -1,6 +1,9 @@
+ghost use Rattle.std.specs.Prelude.{◌≡◌};
+
 use crate::{Expr, Module};
 use item_tree::{FnId, Str};
 use seq_types::SeqType;
+use std::marker::Model;
 
 /// A variable, by where its value is kept.
 #[derive(Clone, Copy, Debug, PartialEq, Eq)]
@@ -11,6 +14,37 @@ pub enum Slot {
     Global(u32),
 }
 
+/// The names of the inputs that a call of `json-lines` reads, in order. Contracts see them as a
+/// list, so two targets with the same names are the same.
+#[derive(Debug, Drop)]
+pub struct InputNames {
+    names: Vec<Str>,
+}
+
+impl Model for InputNames {
+    ghost use Rattle.std.specs.Prelude.{ℕ, List};
+
+    ghost Value = { List (List ℕ) };
+
+    ghost view = { λ n. n.names.items };
+}
+
+impl InputNames {
+    /// These names.
+    pub fn new(names: Vec<Str>) -> InputNames
+        ensures { result ≡ names.items }
+    {
+        InputNames { names }
+    }
+
+    /// The names in order.
+    pub fn as_slice(&self) -> &[Str]
+        ensures { result.now ≡ self.now }
+    {
+        &self.names
+    }
+}
+
 /// What a call calls.
 #[derive(Debug, Drop)]
 pub enum Target {
@@ -18,8 +52,9 @@ pub enum Target {
     Built(FnId),
     /// A declared function. They are numbered from 0 in text order.
     Own(u32),
-    /// `json-lines` of the input with this name. The call has one argument, which isn't evaluated.
-    Lines(Str),
+    /// `json-lines` of the inputs with these names. The call has as many arguments, which aren't
+    /// evaluated.
+    Lines(InputNames),
 }
 
 /// An expression of a compiled tree.

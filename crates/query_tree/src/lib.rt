@@ -12,7 +12,7 @@ mod operator;
 mod part;
 mod step;
 
-pub use bound::{BoundExpr, BoundModule, Slot, Target};
+pub use bound::{BoundExpr, BoundModule, InputNames, Slot, Target};
 pub use clause::{Clause, GroupVar, OrderKey};
 pub use compiled::Compiled;
 pub use expr::{Expr, Kind};

@@ -1,6 +1,6 @@
 -- What the rules see, what a name is compiled to and what a compiled tree may use agree, where an
 -- expression of a query stands.
-use Rattle.std.proofs.Common.{◌≡◌, ℕ, ◌+◌, ◌==◌, Bool, true, false, cond, ◌&&◌, ◌||◌, not, Option, Some, None, List, [], ◌∷◌, ◌++◌, refl, sym, ap, ◌∙◌, arith}
+use Rattle.std.proofs.Common.{◌≡◌, ℕ, suc, ◌+◌, ◌==◌, length, Bool, true, false, cond, ◌&&◌, ◌||◌, not, Option, Some, None, List, [], ◌∷◌, ◌++◌, refl, sym, ap, ◌∙◌, arith}
 use Rattle.std.specs.Prelude.{is_some, unwrap_or, slice_get}
 use Rattle.std.specs.Str.{bytes_eq}
 use Rattle.std.proofs.lemmas.Bool.{false≢true, and_parts, or_right}
@@ -32,10 +32,11 @@ use Rattle.static_rules.specs.Mentions
 use Rattle.static_rules.specs.Mentions.{Mention, MentionAt, reads, reads_item, calls, casts_to, groups_by}
 use Rattle.static_rules.specs.declared.rules.Rule.{Rule}
 use Rattle.static_rules.specs.declared.rules.Rule.TheVariants.{UnboundVariable, UnknownFunction, UnknownCastType, NoStreamVariable, NoContextItem, UnnamedInput}
-use Rattle.static_rules.specs.Rules.{is_lines, is_built_in, is_empty_sequence, is_atomic_type, is_one_text, breaks}
+use Rattle.static_rules.specs.Calls.{text_of, and_text, texts_of}
+use Rattle.static_rules.specs.Rules.{is_lines, is_built_in, is_empty_sequence, is_atomic_type, are_texts, name_inputs, breaks}
 use Rattle.query_tree.specs.Binders
 use Rattle.static_rules.specs.Compiling
-use Rattle.static_rules.specs.Compiling.{Names, slot_of, own_number, text_of, function_or_own, target_of, type_of, any_binding, past, compiled_trees, compiled_bind, compiled_binds, compiled_clause, compiled_clauses, compiled_group_var, compiled_group_vars, compiled_params, with_params}
+use Rattle.static_rules.specs.Compiling.{Names, slot_of, own_number, function_or_own, target_of, type_of, any_binding, past, compiled_trees, compiled_bind, compiled_binds, compiled_clause, compiled_clauses, compiled_group_var, compiled_group_vars, compiled_params, with_params}
 
 -- a mention breaks no rule
 pub record Kept (m : Mention) : Type 0 where
@@ -96,18 +97,32 @@ arguments_same : (s : Names) (n : ℕ) (ts : NamedTrees) → how_many (compiled_
 arguments_same s n p.no_trees = refl
 arguments_same s n (p.more_trees t ts) = let e = arguments_same s (past n (Binders.binders t)) ts in omega (arith, e)
 
-one_argument : (ts : NamedTrees) → is_one_text ts ≡ true → argument_count ts ≡ 1
-one_argument (p.more_trees (p.tree_node place (p.text_form value)) p.no_trees) e = refl
-one_argument _ e = absurd (cc)
+and_text-length : (t : Option (List ℕ)) (ts : List (List ℕ)) → is_some t ≡ true → length (and_text t ts) ≡ suc (length ts)
+and_text-length None ts e = absurd (cc)
+and_text-length (Some text) ts e = refl
 
-target_bound : (c : Scope) (lines : Bool) (built : Option FnId) (text : List ℕ) (own count : ℕ)
-    → (lines ≡ true → (count == 1) ≡ true)
+texts-length : (ts : NamedTrees) → are_texts ts ≡ true → argument_count ts ≡ length (texts_of ts)
+texts-length p.no_trees e = refl
+texts-length (p.more_trees t ts) e =
+    let parts = and_parts (is_some (text_of t)) (are_texts ts) e in
+    omega (arith, texts-length ts parts.1, and_text-length (text_of t) (texts_of ts) parts.0)
+
+pub itself : (n : ℕ) → (n == n) ≡ true
+itself n = grind (arith, nat_tests)
+
+-- the arguments that name inputs are as many as the names
+inputs-counted : (ts : NamedTrees) → name_inputs ts ≡ true → (argument_count ts == length (texts_of ts)) ≡ true
+inputs-counted ts e =
+    ap (λ k. argument_count ts == k) (sym (texts-length ts (and_parts _ (are_texts ts) e).1)) ∙ itself (argument_count ts)
+
+target_bound : (c : Scope) (lines : Bool) (built : Option FnId) (texts : List (List ℕ)) (own count : ℕ)
+    → (lines ≡ true → (count == length texts) ≡ true)
     → ((id : FnId) → built ≡ Some id → takes_arity id count ≡ true)
     → (lines ≡ false → built ≡ None → is_count (slice_get c.functions own) count ≡ true)
-    → may_call c (cond lines (Lines text) (function_or_own built own)) count ≡ true
-target_bound c true built text own count input language declared = input refl
-target_bound c false (Some id) text own count input language declared = language id refl
-target_bound c false None text own count input language declared = declared refl refl
+    → may_call c (cond lines (Lines texts) (function_or_own built own)) count ≡ true
+target_bound c true built texts own count input language declared = input refl
+target_bound c false (Some id) texts own count input language declared = language id refl
+target_bound c false None texts own count input language declared = declared refl refl
 
 third_of : (x y z : Bool) → not (x || y || z) ≡ false → x ≡ false → y ≡ false → z ≡ true
 third_of true y z h e f = absurd (cc)
@@ -122,8 +137,8 @@ pub call-passes : {s : Names} {v : View} {c : Scope} (n : ℕ) → Agrees s v c 
 call-passes {s} {v} {c} n a name arguments h =
     let count = argument_count arguments in
     ap (may_call c (target_of s name arguments)) (arguments_same s n arguments)
-    ∙ target_bound c (is_lines name) (function_named name count) (text_of arguments) (own_number s.functions name count) count
-    (λ e. ap (λ k. k == 1) (one_argument arguments (second_of (is_lines name) (is_one_text arguments) (h.all UnnamedInput) e)))
+    ∙ target_bound c (is_lines name) (function_named name count) (texts_of arguments) (own_number s.functions name count) count
+    (λ e. inputs-counted arguments (second_of (is_lines name) (name_inputs arguments) (h.all UnnamedInput) e))
     (λ id e. (named name count id e).1)
     (λ e f. a.calls name count (third_of (is_lines name) (is_built_in name count) (has_callee v.functions name count) (h.all UnknownFunction) e (ap is_some f)))
 
@@ -131,9 +146,6 @@ call-passes {s} {v} {c} n a name arguments h =
 room-more : (seen : Locals) (n : ℕ) → ((k : ℕ) → has_room seen k ≡ true) → (k : ℕ) → has_room (and_local seen (Local n)) k ≡ true
 room-more (these ns) n h k = refl
 room-more (below width) n h k = h k
-
-pub itself : (n : ℕ) → (n == n) ≡ true
-itself n = grind (arith, nat_tests)
 
 own_seen : (seen : Locals) (n : ℕ) → ((k : ℕ) → has_room seen k ≡ true) → has_local (and_local seen (Local n)) n ≡ true
 own_seen (these ns) n h = ap (λ b. b || has_local (these ns) n) (itself n)

@@ -1,5 +1,5 @@
 -- What the rules say of some queries, and how some are compiled.
-use Rattle.std.proofs.Common.{◌≡◌, ℕ, pos, true, false, Option, Some, None, List, [], ◌∷◌, refl}
+use Rattle.std.proofs.Common.{◌≡◌, ℕ, zero, suc, pos, true, false, Option, Some, None, List, [], ◌∷◌, refl}
 use Rattle.std.specs.Prelude.{codes}
 use Rattle.item_tree.specs.declared.functions.FnId.TheVariants.{Count}
 use Rattle.seq_types.specs.declared.types.SeqType.{SeqType}
@@ -7,7 +7,7 @@ use Rattle.seq_types.specs.declared.types.Times.TheVariants.{One}
 use Rattle.query_tree.specs.declared.bound.Slot.{Slot}
 use Rattle.query_tree.specs.declared.bound.Slot.TheVariants.{Local, Global}
 use Rattle.query_tree.specs.declared.bound.Target.{Target}
-use Rattle.query_tree.specs.declared.bound.Target.TheVariants.{Built, Own}
+use Rattle.query_tree.specs.declared.bound.Target.TheVariants.{Built, Own, Lines}
 use Rattle.query_tree.specs.declared.module.Param.{Param}
 use Rattle.query_tree.specs.declared.names.Placed.{Placed}
 use Rattle.query_tree.specs.declared.names.TypeName.{TypeName}
@@ -227,10 +227,42 @@ no_item_in_a_function = refl
 no_items : refusal (body (at 0 (p.instance_form (number 0 1) 2 (placed 14 (record { name = codes "empty-sequence"; parens = true; times = One }))))) ≡ None
 no_items = refl
 
--- json-lines("a", "b"), and declare function json-lines($a, $b) { 1 }; 1
-two_input_names : refusal (body (call 0 (codes "json-lines") (at 11 (p.text_form (codes "a")) ∷ at 16 (p.text_form (codes "b")) ∷ []))) ≡ refused UnnamedInput 0
+-- json-lines with 0, 1, 2, 64 and 65 texts, with a text and a number, and with one in parentheses
+abbrev text : ℕ → NamedTree
+text place = at place (p.text_form (codes "a"))
+
+abbrev texts : ℕ → List NamedTree
+texts zero = []
+texts (suc n) = text 11 ∷ texts n
+
+abbrev lines : List NamedTree → NamedQuery
+lines ts = body (call 0 (codes "json-lines") ts)
+
+no_input_names : refusal (lines []) ≡ refused UnnamedInput 0
+no_input_names = refl
+
+one_input_name : refusal (lines (texts 1)) ≡ None
+one_input_name = refl
+
+two_input_names : refusal (lines (texts 2)) ≡ None
 two_input_names = refl
 
+two_inputs_compiled : (compiled_query (lines (texts 2))).body ≡ bound_at 0 (p.call_form (Lines (codes "a" ∷ codes "a" ∷ [])) (p.more_trees (bound_at 11 (p.text_form (codes "a"))) (p.more_trees (bound_at 11 (p.text_form (codes "a"))) p.no_trees)))
+two_inputs_compiled = refl
+
+most_input_names : refusal (lines (texts 64)) ≡ None
+most_input_names = refl
+
+too_many_input_names : refusal (lines (texts 65)) ≡ refused UnnamedInput 0
+too_many_input_names = refl
+
+no_text : refusal (lines (text 11 ∷ number 16 1 ∷ [])) ≡ refused UnnamedInput 0
+no_text = refl
+
+in_parentheses : refusal (lines (at 11 (p.paren_form (p.one_tree (text 12))) ∷ [])) ≡ refused UnnamedInput 0
+in_parentheses = refl
+
+-- declare function json-lines($a, $b) { 1 }; 1
 lines_declared : refusal (record { variables = []; functions = function 17 (codes "json-lines") (placed 28 (codes "a") ∷ placed 32 (codes "b") ∷ []) (number 38 1) ∷ []; body = number 43 1 }) ≡ refused FunctionTwice 17
 lines_declared = refl
 

@@ -23,6 +23,7 @@ use Rattle.query_tree.specs.Bound.{BoundTree}
 use Rattle.query_tree.specs.Compiled.{BoundTrees, is_compiled}
 use Rattle.static_rules.specs.Views.{NamedTree, NamedTrees, NamedQuery, Callee, argument_count}
 use Rattle.static_rules.specs.Mentions.{callee_of}
+use Rattle.static_rules.specs.Calls.{texts_of}
 use Rattle.static_rules.specs.Rules.{is_lines, is_empty_sequence}
 use Rattle.static_rules.specs.Refusals.{refusal}
 use Rattle.query_tree.specs.Binders
@@ -56,14 +57,9 @@ abbrev pub function_or_own : Option FnId → ℕ → Target
 function_or_own (Some id) number = Built id
 function_or_own None number = Own number
 
--- the first argument, where it is a string that is spelled out
-abbrev pub text_of : NamedTrees → List ℕ
-text_of (p.more_trees (p.tree_node place (p.text_form value)) ts) = value
-text_of _ = []
-
 abbrev pub target_of : Names → List ℕ → NamedTrees → Target
 target_of s name arguments =
-    if is_lines name then Lines (text_of arguments)
+    if is_lines name then Lines (texts_of arguments)
     else function_or_own (function_named name (argument_count arguments))
     (own_number s.functions name (argument_count arguments))
 

@@ -1,5 +1,5 @@
 -- The static rules: which mentions of a query break them.
-use Rattle.std.specs.Prelude.{ℕ, Bool, true, false, ◌&&◌, ◌||◌, not, Option, Some, None, is_some, List, [], ◌∷◌, codes}
+use Rattle.std.specs.Prelude.{ℕ, nat_le, Bool, true, false, ◌&&◌, ◌||◌, not, Option, Some, None, is_some, List, [], ◌∷◌, codes}
 use Rattle.std.specs.Str.{bytes_eq}
 use Rattle.item_tree.specs.declared.code.Code.{Code}
 use Rattle.item_tree.specs.declared.code.Code.TheVariants.{XPST0008, XPST0017, XPST0051, XQST0034, XQST0039, XQST0049, XQST0089, XQST0094, XPDY0002, PJST0002}
@@ -14,6 +14,7 @@ use Rattle.query_tree.specs.Scopes.{is_atomic_name, is_at_most_one}
 use Rattle.static_rules.specs.declared.rules.Rule.{Rule}
 use Rattle.static_rules.specs.declared.rules.Rule.TheVariants.{UnboundVariable, UnknownFunction, UnknownType, UnknownCastType, FunctionTwice, ParameterTwice, VariableTwice, PositionTwice, NoStreamVariable, NoContextItem, UnnamedInput}
 use Rattle.static_rules.specs.Views.{NamedTrees, has_name, has_callee, argument_count}
+use Rattle.static_rules.specs.Calls.{text_of}
 use Rattle.static_rules.specs.Mentions.{Mention, reads, reads_item, calls, has_type, casts_to, counts_positions, groups_by, declares_function, declares_parameter, declares_variable}
 
 -- `json-lines`, which no one may declare
@@ -35,10 +36,18 @@ abbrev pub is_atomic_type : Option ItemType → Bool
 is_atomic_type None = false
 is_atomic_type (Some t) = is_atomic_name t
 
--- whether there is one argument, a string that is spelled out
-abbrev pub is_one_text : NamedTrees → Bool
-is_one_text (p.more_trees (p.tree_node place (p.text_form value)) p.no_trees) = true
-is_one_text _ = false
+-- whether each argument is a string that is spelled out
+abbrev pub are_texts : NamedTrees → Bool
+are_texts p.no_trees = true
+are_texts (p.more_trees t ts) = is_some (text_of t) && are_texts ts
+
+-- whether so many names may stand in a call of `json-lines`
+abbrev pub is_name_count : ℕ → Bool
+is_name_count count = nat_le 1 count && nat_le count 64
+
+-- whether there are 1 to 64 arguments, each a string that is spelled out
+abbrev pub name_inputs : NamedTrees → Bool
+name_inputs arguments = is_name_count (argument_count arguments) && are_texts arguments
 
 -- a variable that is read where nothing binds it
 abbrev pub is_unbound_variable : Mention → Bool
@@ -96,9 +105,9 @@ abbrev pub is_no_context_item : Mention → Bool
 is_no_context_item (reads_item item) = not item
 is_no_context_item _ = false
 
--- a call of `json-lines` with other arguments than one string that is spelled out
+-- a call of `json-lines` with other arguments than 1 to 64 strings that are spelled out
 abbrev pub is_unnamed_input : Mention → Bool
-is_unnamed_input (calls name arguments functions) = is_lines name && not (is_one_text arguments)
+is_unnamed_input (calls name arguments functions) = is_lines name && not (name_inputs arguments)
 is_unnamed_input _ = false
 
 -- all of them, in the order in which they are told at one place

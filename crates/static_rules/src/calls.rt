@@ -1,8 +1,7 @@
-ghost use Rattle.std.specs.Prelude.{◌≡◌, ◌==◌, ◌&&◌, Option, option_map, is_some, map, position, codes, IfOk};
+ghost use Rattle.std.specs.Prelude.{◌≡◌, ◌==◌, ◌&&◌, option_map, map, position, IfOk};
 ghost use Rattle.std.specs.Str.{bytes_eq};
-ghost use Rattle.static_rules.specs.Rules.{is_lines, is_one_text};
-ghost use Rattle.static_rules.specs.Compiling.{text_of};
-ghost use Rattle.static_rules.specs.Calls.{text_in};
+ghost use Rattle.static_rules.specs.Rules.{is_lines, are_texts, is_name_count, name_inputs};
+ghost use Rattle.static_rules.specs.Calls.{text_in, texts_of};
 ghost use Rattle.static_rules.specs.Stacks.{callee_of};
 ghost use Rattle.static_rules.specs.Sources.{named_form, named_trees};
 
@@ -42,25 +41,42 @@ fn text_in(kind: &NamedKind) -> Option<&Str>
     }
 }
 
-/// Whether there is one argument, a string that is spelled out.
-pub fn is_one_text(arguments: &[NamedExpr]) -> bool
-    ensures { result ≡ is_one_text (named_trees arguments.now) }
+/// Whether there are 1 to 64 arguments, each a string that is spelled out.
+#[tactic(auto, using(crate::proofs::Calling::argument_length))]
+pub fn name_inputs(arguments: &[NamedExpr]) -> bool
+    ensures { result ≡ name_inputs (named_trees arguments.now) }
 {
-    match arguments {
-        [only] => text_in(&only.kind).is_some(),
-        _ => false,
-    }
+    is_name_count(arguments.len()) && are_texts(arguments)
 }
 
-/// The first argument, where it is a string that is spelled out.
-pub fn first_text(alloc: Global, arguments: &[NamedExpr]) -> Result<Str, NoMemory>
-    ensures { IfOk result (λ s. s ≡ text_of (named_trees arguments.now)) }
+// Whether so many names may stand in a call of `json-lines`.
+fn is_name_count(count: usize) -> bool
+    ensures { result ≡ is_name_count count }
 {
-    match arguments {
-        [] => Str::of(alloc, ""),
-        [first, ..] => match text_in(&first.kind) {
-            Some(text) => text.copy(),
-            None => Str::of(alloc, ""),
-        },
+    1 <= count && count <= 64
+}
+
+// Whether each argument is a string that is spelled out.
+fn are_texts(arguments: &[NamedExpr]) -> bool
+    ensures { result ≡ are_texts (named_trees arguments.now) }
+{
+    for argument in arguments {
+        if text_in(&argument.kind).is_none() {
+            return false;
+        }
     }
+    true
+}
+
+/// The strings among the arguments that are spelled out, in order.
+pub fn texts(alloc: Global, arguments: &[NamedExpr]) -> Result<Vec<Str>, NoMemory>
+    ensures { IfOk result (λ v. v.items ≡ texts_of (named_trees arguments.now)) }
+{
+    let mut out = Vec::new(alloc);
+    for argument in arguments {
+        if let Some(text) = text_in(&argument.kind) {
+            out.push(text.copy()?)?;
+        }
+    }
+    Ok(out)
 }

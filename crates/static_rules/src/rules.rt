@@ -27,7 +27,7 @@ pub enum Rule {
     NoStreamVariable,
     /// A `$$` that stands for no item.
     NoContextItem,
-    /// A call of `json-lines` with other arguments than one string that is spelled out.
+    /// A call of `json-lines` with other arguments than 1 to 64 strings that are spelled out.
     UnnamedInput,
 }
 

@@ -17,11 +17,11 @@ ghost use Rattle.std.specs.Prelude.{map};
 ghost use Rattle.static_rules.specs.Stacks.{callee_of};
 ghost use Rattle.static_rules.specs.Declarations.{started, begun, bound_global, seeing_functions, earlier_functions};
 
-use crate::calls::{first_text, is_lines, is_one_text, own_position};
+use crate::calls::{is_lines, name_inputs, own_position, texts};
 use crate::types::{is_unknown_cast_type, is_unknown_type, placed_type};
 use crate::{Refusal, Rule};
 use item_tree::{FnId, NoMemory, Str};
-use query_tree::{NamedExpr, Placed, Slot, Target, TypeName};
+use query_tree::{InputNames, NamedExpr, Placed, Slot, Target, TypeName};
 use seq_types::SeqType;
 use std::alloc::Global;
 use std::marker::Model;
@@ -260,9 +260,9 @@ impl<'q> Walk<'q> {
             (calls name.now (named_trees arguments.now) self.old.names.functions) ∷ []) []) }
     {
         if is_lines(name) {
-            self.test(!is_one_text(arguments), Rule::UnnamedInput, place);
-            let input = first_text(alloc, arguments)?;
-            return Ok(Target::Lines(input));
+            self.test(!name_inputs(arguments), Rule::UnnamedInput, place);
+            let inputs = InputNames::new(texts(alloc, arguments)?);
+            return Ok(Target::Lines(inputs));
         }
         self.call_function(place, name, arguments.len())
     }

@@ -7,7 +7,7 @@ use Rattle.static_rules.proofs.walk.Walk.call.Goals as goal
 
 pub returns-then-is_lines-clause-walk : goal.returns-then-is_lines-clause-walk
 returns-then-is_lines-clause-walk c =
-    c.test.ensures ∙ ap (λ b. tested c.args.self.now (not b) UnnamedInput c.args.place) c.is_one_text.ensures
+    c.test.ensures ∙ ap (λ b. tested c.args.self.now (not b) UnnamedInput c.args.place) c.name_inputs.ensures
     ∙ lines-tested c.args.self.now c.args.name.now (named_trees c.args.arguments.now) c.args.place (sym c.is_lines.ensures ∙ c.if-is_lines.true)
 
 pub returns-clause-value : goal.returns-clause-value

@@ -1,0 +1,7 @@
+use Rattle.std.proofs.Common.{◌≡◌, ◌++◌, drop}
+use Rattle.static_rules.specs.Calls.{texts_of}
+use Rattle.static_rules.specs.Sources.{named_trees}
+use Rattle.static_rules.proofs.calls.texts.Given as goal
+
+abbrev pub invariant-loop-argument : goal.invariant-loop-argument
+invariant-loop-argument l = texts_of (named_trees l.arguments) ≡ l.out.items ++ texts_of (named_trees (drop l.argument-index l.arguments))
