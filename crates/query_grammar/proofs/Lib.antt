@@ -6,3 +6,5 @@ pub mod Texts
 pub mod Bounds
 pub mod OneReading
 mod Rows
+pub mod Values
+pub mod Apart

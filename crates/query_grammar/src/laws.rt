@@ -5,7 +5,7 @@ ghost use Rattle.std.specs.Prelude.{ℕ, List};
 ghost use Rattle.query_lexer.specs.declared.token.Token.{Token};
 ghost use Rattle.query_grammar.specs.declared.word.Word.{Word};
 ghost use Rattle.query_grammar.specs.Nodes.{Module};
-ghost use Rattle.query_grammar.specs.Laws.{HasOneTree, IsDecided, HasOneRefusal, IsNeverBoth, HasOneReading, IsBoundedByNesting, HasTreesInBounds};
+ghost use Rattle.query_grammar.specs.Laws.{HasOneTree, IsDecided, HasOneRefusal, IsNeverBoth, HasOneReading, IsBoundedByNesting, HasTreesInBounds, HasCommasApart};
 
 /// A list of words derives at most one tree.
 pub fn one_tree()
@@ -31,4 +31,11 @@ pub fn one_reading()
 pub fn nesting_is_bounded()
     ensures each { (n : ℕ) → (words : List Word) → (t : Module) → IsBoundedByNesting n words t }
     ensures query { (words : List Word) → HasTreesInBounds words }
+{}
+
+/// No operand of a comma on the spine of a query's expression is itself a comma. As the expressions
+/// are nested at most 100 deep, by `query_tree::laws::nesting_bounds_spines` each spine is at most
+/// 201 long.
+pub fn commas_stand_apart()
+    ensures { (words : List Word) → HasCommasApart words }
 {}
