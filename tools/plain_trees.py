@@ -357,7 +357,7 @@ def write_lists():
 
 def write_folds():
     types, steps = " ".join(GENERIC), " ".join(STEPS)
-    out = [HEAD + "-- A fold at a node that is known, for any steps."]
+    out = [HEAD + "-- A fold at a node that is known, for any steps. For other crates too."]
     out.append("use Rattle.std.proofs.Common.{◌≡◌, ap, ◌∙◌}")
     for name in ORDER:
         more = f", map-{name}, out-{name}, fold_out-{name}" if name in ENUMS else ""
@@ -430,7 +430,7 @@ def write_layers():
     lists = [list_of(n) for n in LISTS]
     made = [constructor(n, v) for n in ORDER for v, _ in VARIANTS[n]]
     parts = [snake(n) + "_layer" for n in PARTS] + [value_of(n) for n in PARTS]
-    out = [HEAD + "-- The plain value of a tree, at each kind of node."]
+    out = [HEAD + "-- The plain value of a tree, at each kind of node. For other crates too."]
     out.append("use Rattle.std.proofs.Common.{◌≡◌, ℕ, ℤ, Bool, List, Option, Some, None, option_map, map, refl, ap, ◌∙◌}")
     out.append("use Rattle.std.specs.declared.alloc.Global.{Global}")
     out.append("use Rattle.std.specs.declared.boxed.Box.{Box}")

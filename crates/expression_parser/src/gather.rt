@@ -7,9 +7,6 @@ ghost use Rattle.grammar_parts.specs.declared.cursor.Stop.TheVariants.{NoMemory}
 use grammar_parts::Stop;
 use std::alloc::Global;
 
-/// Drops a part.
-pub fn discard<A: Drop>(_part: A) {}
-
 /// Drops a part, and stops.
 pub fn give_up<A: Drop, T>(_part: A, stop: Stop) -> Result<T, Stop>
     ensures { result ≡ Err stop }

@@ -8,13 +8,14 @@ ghost use Rattle.query_tree.specs.Plain as p;
 ghost use Rattle.expression_parser.specs.Views as view;
 ghost use Rattle.expression_parser.specs.Views.{tree};
 
-use crate::gather::{both_boxed, boxed_beside, discard, give_up};
+use crate::gather::{both_boxed, boxed_beside, give_up};
 use crate::values::{name_of, placed, units_in, whole_in};
 use grammar_parts::Stop;
 use item_tree::Str;
 use query_grammar::{Kind as Token, Word};
 use query_tree::{
     CompareOp, Expr, Factor, Kind, Lookup, NamedExpr, Operand, Placed, Step, SumOp, Term, TypeName,
+    discard,
 };
 use std::alloc::Global;
 

@@ -1,4 +1,4 @@
--- The tokens of a text are the words of at most one list.
+-- The tokens of a text are the words of at most one list. For other crates too.
 use Rattle.std.proofs.Common.{◌≡◌, ℕ, List, [], ◌∷◌, Option, Some, None, refl, sym, ◌∙◌, ap, subst}
 use Rattle.std.specs.Str.{chars}
 use Rattle.num_fixed.specs.Numeral.{Numeral, IsNumeral, Says}

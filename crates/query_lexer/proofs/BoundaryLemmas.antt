@@ -1,4 +1,5 @@
 -- A token begins and ends with an ASCII byte, so a text may be cut before it and behind it.
+-- For other crates too.
 use Rattle.std.proofs.Common.{◌≡◌, ◌⊎◌, inl, inr, ℕ, ◌+◌, ◌-◌, ◌<◌, ◌≤◌, List, ◌∷◌, [], ◌++◌, length, length-append, length-drop, take, drop, get_or, true, Bool, nat_lt, sym, ◌∙◌, ap, subst, refl, arith, codes}
 use Rattle.std.specs.Char.{is_ascii_digit}
 use Rattle.std.specs.List.{list_all}

@@ -1,4 +1,4 @@
--- Where the tokens of a text stand.
+-- Where the tokens of a text stand. For other crates too.
 use Rattle.std.proofs.Common.{◌≡◌, ℕ, zero, suc, ◌+◌, ◌<◌, ◌≤◌, List, ◌∷◌, [], ◌++◌, length, length-drop, take, drop, get_or, false, sym, ◌∙◌, ap, subst, refl, arith, append_assoc, append-nil}
 use Rattle.std.specs.List.{Contains}
 use Rattle.std.proofs.lemmas.List.{drop-drop, take-append-drop}

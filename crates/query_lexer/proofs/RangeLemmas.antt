@@ -1,4 +1,4 @@
--- Whether a literal is out of range.
+-- Whether a literal is out of range. For other crates too.
 use Rattle.std.proofs.Common.{◌≡◌, ◌⊎◌, inl, inr, ℕ, ◌<◌, List, ◌∷◌, [], ◌++◌, length, length-append, take, drop, true, false, not, cond, sym, ◌∙◌, ap, subst, refl, arith, append-nil, ℤ}
 use Rattle.std.specs.Prelude.{Result, Ok, Err, is_err, IfOk, IfErr, is_some}
 use Rattle.std.specs.List.{list_all}

@@ -1,4 +1,4 @@
--- What a caller knows of a token of a text.
+-- What a caller knows of a token of a text. For other crates too.
 use Rattle.std.proofs.Common.{◌≡◌, ◌⊎◌, inl, inr, ℕ, ◌+◌, ◌-◌, ◌<◌, ◌≤◌, List, [], length, length-drop, take, drop, false, sym, ◌∙◌, ap, subst, refl, arith, ℤ}
 use Rattle.std.specs.Prelude.{Result, Ok, Err, IfOk, IfErr}
 use Rattle.std.specs.Str.{IsUtf8, IsCharBoundary}

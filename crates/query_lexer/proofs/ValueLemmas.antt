@@ -1,4 +1,4 @@
--- The value of a string that is a token of a text.
+-- The value of a string that is a token of a text. For other crates too.
 use Rattle.std.proofs.Common.{◌≡◌, inl, inr, ℕ, zero, suc, ◌+◌, ◌-◌, ◌*◌, ◌<◌, ◌≤◌, List, ◌∷◌, [], ◌++◌, length, length-append, length-drop, take, drop, get_or, true, ◌&&◌, nat_lt, sym, ◌∙◌, ap, subst, refl, arith, Some, append_assoc, append-nil}
 use Rattle.std.specs.Prelude.{IfSome, IfOk, Result, Ok, Err}
 use Rattle.std.specs.Char.{IsScalar, digit_value, is_digit, encode_utf8}

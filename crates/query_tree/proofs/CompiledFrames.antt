@@ -64,4 +64,5 @@ compiled-framed width m h =
       params = λ i f g. (function_at width 0 s (small_none width) m.functions declared.1 own.1 i f g).params;
       functions = λ i f g. (function_at width 0 s (small_none width) m.functions declared.1 own.1 i f g).body;
       body = tree-framed width s (small_none width) m.body bound.1 (fits_of width (binders m.body) apart.1);
+      apart = both.1;
     }

@@ -1,5 +1,5 @@
 -- Written by tools/plain_trees.py from the types of src/. Change those, and run it again.
--- A fold at a node that is known, for any steps.
+-- A fold at a node that is known, for any steps. For other crates too.
 use Rattle.std.proofs.Common.{◌≡◌, ap, ◌∙◌}
 use Rattle.query_tree.specs.declared.clause.Clause.{Clause, Clause-F, fold-Clause, map-Clause, out-Clause, fold_out-Clause}
 use Rattle.query_tree.specs.declared.expr.Kind.{Kind, Kind-F, fold-Kind, map-Kind, out-Kind, fold_out-Kind}

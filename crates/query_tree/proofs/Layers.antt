@@ -1,5 +1,5 @@
 -- Written by tools/plain_trees.py from the types of src/. Change those, and run it again.
--- The plain value of a tree, at each kind of node.
+-- The plain value of a tree, at each kind of node. For other crates too.
 use Rattle.std.proofs.Common.{◌≡◌, ℕ, ℤ, Bool, List, Option, Some, None, map, refl, ap, ◌∙◌}
 use Rattle.std.specs.declared.alloc.Global.{Global}
 use Rattle.std.specs.declared.boxed.Box.{Box}

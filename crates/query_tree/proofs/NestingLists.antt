@@ -1,4 +1,4 @@
--- The nesting of a list of parts is the greatest that its elements have.
+-- The nesting of a list of parts is the greatest that its elements have. For other crates too.
 use Rattle.std.proofs.Common.{◌≡◌, ℕ, max, List, [], ◌∷◌, ◌++◌, refl, ap, arith}
 use Rattle.query_tree.specs.Plain as p
 use Rattle.query_tree.specs.Nesting as n

@@ -94,7 +94,8 @@ module_apart width m =
 abbrev pub is_compiled : ℕ → BoundTrees → Bool
 is_compiled width m = module_bound (these []) m && module_apart width m
 
--- that all expressions are bound over frames of this width, in which every slot may be read
+-- that all expressions are bound over frames of this width, in which every slot may be read, and
+-- that the bindings of each declaration have slots of their own
 pub record IsFramed (width : ℕ) (m : BoundTrees) : Type 0 where
   pub variables : (i : ℕ) (x : PlainVariable Slot Target SeqType) → slice_get m.variables i ≡ Some x
       → is_bound (variable_scope (below width) i) x.value ≡ true
@@ -103,6 +104,7 @@ pub record IsFramed (width : ℕ) (m : BoundTrees) : Type 0 where
   pub functions : (i : ℕ) (f : PlainFunction Slot Target SeqType) → slice_get m.functions i ≡ Some f
       → is_bound (body_scope (below width) m) f.body ≡ true
   pub body : is_bound (body_scope (below width) m) m.body ≡ true
+  pub apart : module_apart width m ≡ true
 
 -- a compiled query: its tree and the width of its frames
 pub record CompiledTree : Type 0 where

@@ -13,7 +13,7 @@ ghost use Rattle.rumble_run.specs.inside.Seen.{answer_of, IsShaped, IsOfStatus, 
 
 use crate::built::call_of;
 use crate::ending::Ending;
-use crate::front::{FrontFault, discard, front};
+use crate::front::{FrontFault, front};
 use crate::inputs::{Held, fault_of, read_inputs};
 use crate::mark::without_mark;
 use crate::read::read_named;
@@ -22,7 +22,7 @@ use crate::telling::{accepts, prints, tells_error, tells_no_query, tells_refusal
 use crate::words::{Task, command_of};
 use item_tree::{Code, Fault, Str};
 use outside::Inputs;
-use query_tree::Compiled;
+use query_tree::{Compiled, discard};
 use std::alloc::Global;
 
 // What a call of `json-lines` at this place comes to.

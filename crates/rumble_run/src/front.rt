@@ -5,11 +5,10 @@ ghost use Rattle.rumble_run.specs.Front.{IsFront, IsFrontOfText, static_front};
 ghost use Rattle.rumble_run.specs.inside.Seen.{front_of};
 
 use crate::mark::without_mark;
-use expression_parser::gather::discard;
 use item_tree::{Code, Fault};
 use query_lexer::{LexFault, tokens};
 use query_parser::{ParseFault, parse};
-use query_tree::{Compiled, Query};
+use query_tree::{Compiled, Query, discard};
 use static_rules::{CompileFault, compile};
 use std::alloc::Global;
 

@@ -3,7 +3,7 @@ use crate::{CompileFault, compile};
 use item_tree::{NoMemory, Str, Whole};
 use query_tree::{
     BoundExpr, Compiled, Expr, Function, Kind, Module, NamedExpr, Operand, Param, Placed, Query,
-    Slot, Target, TypeName, Variable,
+    Slot, Target, TypeName, Variable, discard,
 };
 use std::alloc::Global;
 use std::test::Fail;
@@ -185,9 +185,6 @@ fn shown_module(alloc: Global, query: &Compiled) -> Result<String, Fail> {
     out.push_str(&format!(in alloc; "; {}", query.width())?)?;
     Ok(out)
 }
-
-// A tree is dropped here, so that no test has a proof of its own for that.
-fn discard<A: Drop>(_tree: A) {}
 
 fn shown(alloc: Global, query: &Query) -> Result<String, Fail> {
     match compile(alloc, query) {
