@@ -4,7 +4,7 @@
 mod bound;
 mod clause;
 mod compiled;
-mod discard;
+mod drops;
 mod expr;
 pub mod laws;
 mod module;
@@ -16,7 +16,7 @@ mod step;
 pub use bound::{BoundExpr, BoundModule, InputNames, Slot, Target};
 pub use clause::{Clause, GroupVar, OrderKey};
 pub use compiled::Compiled;
-pub use discard::discard;
+pub use drops::discard;
 pub use expr::{Expr, Kind};
 pub use module::{Function, Module, Param, Variable};
 pub use names::{NamedExpr, Placed, Query, TypeName};
