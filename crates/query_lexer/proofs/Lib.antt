@@ -1,3 +1,4 @@
+pub mod FrontLemmas
 pub mod Cases
 pub mod CommentLemmas
 pub mod Runs

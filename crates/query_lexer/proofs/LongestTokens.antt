@@ -4,7 +4,9 @@ use Rattle.std.proofs.lemmas.Bool.{cond-true, cond-false, and_parts, and_from, l
 use Rattle.std.specs.List.{prefix_len}
 use Rattle.std.specs.Char.{is_ascii_digit}
 use Rattle.query_lexer.specs.Bytes.{next_passes, is_letter, is_name_byte, is_mark, is_double_mark}
-use Rattle.query_lexer.specs.Scan.{name_length, digits_length, fraction_length, fraction_at, exponent_at, number_kind, number_at, mark_at, var_at, token_at, first_some, starts_with, text_of_length, string_length}
+use Rattle.query_lexer.specs.Scan.{name_length, fraction_at, exponent_at, number_kind, number_at, mark_at, var_at, token_at, first_some, starts_with, text_of_length, string_length}
+use Rattle.num_fixed.specs.Scan.{digits_len}
+use Rattle.num_fixed.specs.Fronts.{fraction_len}
 use Rattle.query_lexer.specs.Words.{IsName, IsVar, IsText, IsMark, Fits}
 use Rattle.query_lexer.specs.declared.token.TokenKind.{TokenKind}
 use Rattle.query_lexer.specs.declared.token.TokenKind.TheVariants as k
@@ -32,24 +34,24 @@ token_other : (b : ℕ) (r : List ℕ) → Other b → token_at (b ∷ r) ≡ fi
 unfolding token_at
 token_other b r o = cond-false _ _ _ o.letter ∙ cond-false _ _ _ o.dollar ∙ cond-false _ _ _ o.quote
 
-number_some : (text : List ℕ) (x : TokenKind × ℕ) → number_at text ≡ Some x → 0 < digits_length text + fraction_at text
+number_some : (text : List ℕ) (x : TokenKind × ℕ) → number_at text ≡ Some x → 0 < digits_len text + fraction_at text
 unfolding number_at
-number_some text x h = elim (chosen (nat_lt 0 (digits_length text + fraction_at text)) _ _ _ h) [
+number_some text x h = elim (chosen (nat_lt 0 (digits_len text + fraction_at text)) _ _ _ h) [
   | inl (some, is) ↦ ltb-true 0 _ some
   | inr (none, is) ↦ let never : ⊥ = cc in absurd never
 ]
 
-no_digit : (b : ℕ) (r : List ℕ) → is_ascii_digit b ≡ false → digits_length (b ∷ r) ≡ 0
+no_digit : (b : ℕ) (r : List ℕ) → is_ascii_digit b ≡ false → digits_len (b ∷ r) ≡ 0
 no_digit b r h = cond-false _ _ _ h
 
 -- where no digit stands first there is no whole part
-only_fraction : (b : ℕ) (r : List ℕ) → is_ascii_digit b ≡ false → fraction_at (b ∷ r) ≡ fraction_length (b ∷ r)
+only_fraction : (b : ℕ) (r : List ℕ) → is_ascii_digit b ≡ false → fraction_at (b ∷ r) ≡ fraction_len (b ∷ r)
 unfolding fraction_at
-only_fraction b r h = ap (λ n. fraction_length (drop n (b ∷ r))) (no_digit b r h)
+only_fraction b r h = ap (λ n. fraction_len (drop n (b ∷ r))) (no_digit b r h)
 
-no_fraction : (b : ℕ) (r : List ℕ) → (b == 46) ≡ false → fraction_length (b ∷ r) ≡ 0
-unfolding fraction_length
-no_fraction b r h = ap (λ v. cond (v && nat_lt 0 (digits_length r)) (1 + digits_length r) 0) h
+no_fraction : (b : ℕ) (r : List ℕ) → (b == 46) ≡ false → fraction_len (b ∷ r) ≡ 0
+unfolding fraction_len
+no_fraction b r h = ap (λ v. cond (v && nat_lt 0 (digits_len r)) (1 + digits_len r) 0) h
 
 -- where a number may begin
 number_begins : (b : ℕ) (r : List ℕ) (x : TokenKind × ℕ) → number_at (b ∷ r) ≡ Some x → (is_ascii_digit b ≡ true) ⊎ (b ≡ 46)
@@ -65,7 +67,7 @@ begins_other : (b : ℕ) (r : List ℕ) (x : TokenKind × ℕ) → number_at (b 
 begins_other b r x h = elim (number_begins b r x h) [ inl d ↦ digit_is_other b d | inr p ↦ subst Other (sym p) point_is_other ]
 
 no_number : (kind : TokenKind) (n : ℕ) → number_at [] ≡ Some (kind, n) → ⊥
-unfolding number_at fraction_at fraction_length
+unfolding number_at fraction_at fraction_len
 no_number kind n h = cc
 
 -- a number that is reached is reached as a token
@@ -177,25 +179,25 @@ mark_two b c rest h = cond-true _ _ _ h
 
 number_none : (b : ℕ) (r : List ℕ) → is_ascii_digit b ≡ false → (b == 46) ≡ false → number_at (b ∷ r) ≡ None
 unfolding number_at
-number_none b r d p = let none : digits_length (b ∷ r) + fraction_at (b ∷ r) ≤ 0 = omega (arith, no_digit b r d, only_fraction b r d, no_fraction b r p) in
+number_none b r d p = let none : digits_len (b ∷ r) + fraction_at (b ∷ r) ≤ 0 = omega (arith, no_digit b r d, only_fraction b r d, no_fraction b r p) in
     cond-false _ _ _ (le-ltb 0 _ none)
 
-two_or_none : (b : ℕ) (r : List ℕ) → (fraction_length (b ∷ r) ≡ 0) ⊎ (2 ≤ fraction_length (b ∷ r))
-unfolding fraction_length
-two_or_none b r = elim (cases_Bool (b == 46 && nat_lt 0 (digits_length r))) [
-  | inl e ↦ let v = cond-true _ (1 + digits_length r) 0 e in inr (omega (arith, ltb-true 0 (digits_length r) (and_parts (b == 46) (nat_lt 0 (digits_length r)) e).1, v))
-  | inr e ↦ inl (cond-false _ (1 + digits_length r) 0 e)
+two_or_none : (b : ℕ) (r : List ℕ) → (fraction_len (b ∷ r) ≡ 0) ⊎ (2 ≤ fraction_len (b ∷ r))
+unfolding fraction_len
+two_or_none b r = elim (cases_Bool (b == 46 && nat_lt 0 (digits_len r))) [
+  | inl e ↦ let v = cond-true _ (1 + digits_len r) 0 e in inr (omega (arith, ltb-true 0 (digits_len r) (and_parts (b == 46) (nat_lt 0 (digits_len r)) e).1, v))
+  | inr e ↦ inl (cond-false _ (1 + digits_len r) 0 e)
 ]
 
 pub option_cases : {A : Type 0} (o : Option A) → (o ≡ None) ⊎ ((x : A) × (o ≡ Some x))
 option_cases None = inl refl
 option_cases (Some x) = inr (x, refl)
 
-number_size : (text : List ℕ) (kind : TokenKind) (n : ℕ) → number_at text ≡ Some (kind, n) → digits_length text + fraction_at text ≤ n
+number_size : (text : List ℕ) (kind : TokenKind) (n : ℕ) → number_at text ≡ Some (kind, n) → digits_len text + fraction_at text ≤ n
 unfolding number_at
-number_size text kind n h = elim (chosen (nat_lt 0 (digits_length text + fraction_at text)) _ _ _ h) [
+number_size text kind n h = elim (chosen (nat_lt 0 (digits_len text + fraction_at text)) _ _ _ h) [
   | inl (some, is) ↦
-      let e = (some_pair {A = TokenKind} {B = ℕ} (number_kind (fraction_at text) (exponent_at text), digits_length text + fraction_at text + exponent_at text) (kind, n) is).1 in
+      let e = (some_pair {A = TokenKind} {B = ℕ} (number_kind (fraction_at text) (exponent_at text), digits_len text + fraction_at text + exponent_at text) (kind, n) is).1 in
       omega arith
   | inr (none, is) ↦ let never : ⊥ = cc in absurd never
 ]

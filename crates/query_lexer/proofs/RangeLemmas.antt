@@ -1,5 +1,5 @@
 -- Whether a literal is out of range. For other crates too.
-use Rattle.std.proofs.Common.{◌≡◌, ◌⊎◌, inl, inr, ℕ, ◌<◌, List, ◌∷◌, [], ◌++◌, length, length-append, take, drop, true, false, not, cond, sym, ◌∙◌, ap, subst, refl, arith, append-nil, ℤ}
+use Rattle.std.proofs.Common.{◌≡◌, ◌⊎◌, inl, inr, ℕ, ◌<◌, List, ◌∷◌, [], ◌++◌, length, length-append, take, drop, true, false, not, sym, ◌∙◌, ap, subst, refl, arith, append-nil, ℤ}
 use Rattle.std.specs.Prelude.{Result, Ok, Err, is_err, IfOk, IfErr, is_some}
 use Rattle.std.specs.List.{list_all}
 use Rattle.std.specs.Char.{is_ascii_digit}
@@ -14,7 +14,9 @@ use Rattle.num_fixed.specs.declared.number.NumFault.TheVariants.{Overflow}
 use Rattle.num_fixed.proofs.NumeralLemmas.{one_numeral}
 use Rattle.num_fixed.proofs.ValueLemmas.{said_inside, said_outside}
 use Rattle.query_lexer.specs.Lexes.{IsOutNumber, IsOut}
-use Rattle.query_lexer.specs.Scan.{digits_length, fraction_of, numeral_of, is_out_number, is_out}
+use Rattle.query_lexer.specs.Scan.{numeral_of, is_out_number, is_out}
+use Rattle.num_fixed.specs.Scan.{digits_len}
+use Rattle.num_fixed.specs.Fronts.{fraction_of}
 use Rattle.query_lexer.specs.Words.{IsDigits, IsDec, Fits}
 use Rattle.query_lexer.specs.declared.token.TokenKind.{TokenKind}
 use Rattle.query_lexer.specs.declared.token.TokenKind.TheVariants as k
@@ -22,24 +24,24 @@ use Rattle.query_lexer.proofs.Runs.{run_is}
 
 -- ---- the numeral of an Int or a Dec
 
-digits_size : (w : List ℕ) → IsDigits w → digits_length w ≡ length w
-digits_size w h = ap digits_length (sym (append-nil w)) ∙ run_is is_ascii_digit w [] h.1 refl
+digits_size : (w : List ℕ) → IsDigits w → digits_len w ≡ length w
+digits_size w h = ap digits_len (sym (append-nil w)) ∙ run_is is_ascii_digit w [] h.1 refl
 
-digits_back : (w : List ℕ) → IsDigits w → drop (digits_length w) w ≡ []
+digits_back : (w : List ℕ) → IsDigits w → drop (digits_len w) w ≡ []
 digits_back w h = ap (λ n. drop n w) (digits_size w h) ∙ ap (drop (length w)) (sym (append-nil w)) ∙ drop_at w [] (length w) refl
 
 digits_numeral : (w : List ℕ) → IsDigits w → IsNumeral (numeral_of w) w []
 unfolding numeral_of
 digits_numeral w h =
-    let front : take (digits_length w) w ≡ w = ap (λ n. take n w) (digits_size w h) ∙ ap (take (length w)) (sym (append-nil w)) ∙ take_at w [] (length w) refl in
+    let front : take (digits_len w) w ≡ w = ap (λ n. take n w) (digits_size w h) ∙ ap (take (length w)) (sym (append-nil w)) ∙ take_at w [] (length w) refl in
     subst (λ a. IsNumeral (record (numeral_of w) { int = a }) w []) (sym front) (
     subst (λ b. IsNumeral (record (numeral_of w) { int = w; frac = fraction_of b }) w []) (sym (digits_back w h))
     (record { behind_int = []; behind_frac = []; sign = sym (append-nil w); int = h.1; frac = refl; exp = refl; some = subst (λ t. 0 < length t) (sym (append-nil w)) h.0 }))
 
-dec_size : (a b : List ℕ) → list_all is_ascii_digit a ≡ true → digits_length (a ++ 46 ∷ b) ≡ length a
+dec_size : (a b : List ℕ) → list_all is_ascii_digit a ≡ true → digits_len (a ++ 46 ∷ b) ≡ length a
 dec_size a b h = run_is is_ascii_digit a (46 ∷ b) h refl
 
-dec_back : (a b : List ℕ) → list_all is_ascii_digit a ≡ true → drop (digits_length (a ++ 46 ∷ b)) (a ++ 46 ∷ b) ≡ 46 ∷ b
+dec_back : (a b : List ℕ) → list_all is_ascii_digit a ≡ true → drop (digits_len (a ++ 46 ∷ b)) (a ++ 46 ∷ b) ≡ 46 ∷ b
 dec_back a b h = ap (λ n. drop n (a ++ 46 ∷ b)) (dec_size a b h) ∙ drop_at a (46 ∷ b) (length a) refl
 
 dec_numeral : (w : List ℕ) → IsDec w → IsNumeral (numeral_of w) w []
@@ -47,7 +49,7 @@ unfolding numeral_of
 dec_numeral w (a, b, is, ha, hb) =
     subst (λ w. IsNumeral (numeral_of w) w []) (sym is) (
     let v = a ++ 46 ∷ b in
-    let front : take (digits_length v) v ≡ a = ap (λ n. take n v) (dec_size a b ha) ∙ take_at a (46 ∷ b) (length a) refl in
+    let front : take (digits_len v) v ≡ a = ap (λ n. take n v) (dec_size a b ha) ∙ take_at a (46 ∷ b) (length a) refl in
     subst (λ t. IsNumeral (record (numeral_of v) { int = t }) v []) (sym front) (
     subst (λ t. IsNumeral (record (numeral_of v) { int = a; frac = fraction_of t }) v []) (sym (dec_back a b ha))
     (record {
@@ -73,7 +75,7 @@ int_said w m h (inr exp, nearest) = cc
 
 pub dec_said : (w : List ℕ) (m : ℤ) → IsDec w → Says (numeral_of w) (Int m) → ⊥
 unfolding numeral_of
-dec_said w m (a, b, is, ha, hb) (frac, exp, value) = let e = ap (λ t. fraction_of (drop (digits_length t) t)) is ∙ ap fraction_of (dec_back a b ha) in cc
+dec_said w m (a, b, is, ha, hb) (frac, exp, value) = let e = ap (λ t. fraction_of (drop (digits_len t) t)) is ∙ ap fraction_of (dec_back a b ha) in cc
 
 -- ---- whether it says a number in bounds
 

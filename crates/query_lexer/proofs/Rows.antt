@@ -10,7 +10,8 @@ use Rattle.json_text.specs.inside.Scan.{pieces_at}
 use Rattle.query_lexer.specs.Bytes.{is_letter, is_name_byte, is_blank, is_mark, is_double_mark}
 use Rattle.query_lexer.specs.Comments.{opens, closes}
 use Rattle.query_lexer.specs.Lexes.{runs_on, goes, Stands, Tokens, Refused}
-use Rattle.query_lexer.specs.Scan.{name_length, var_at, fraction_length, exponent_length, fraction_at, exponent_at, number_at, numeral_of, is_out, string_length, mark_at, token_at, step_at}
+use Rattle.query_lexer.specs.Scan.{name_length, var_at, fraction_at, exponent_at, number_at, numeral_of, is_out, string_length, mark_at, token_at, step_at}
+use Rattle.num_fixed.specs.Fronts.{fraction_len, exponent_len}
 use Rattle.query_lexer.specs.declared.token.TokenKind.{TokenKind}
 use Rattle.query_lexer.specs.declared.token.TokenKind.TheVariants as k
 use Rattle.query_lexer.specs.declared.token.Token.{Token}
@@ -84,7 +85,7 @@ word_rows =
     ∷ []
 
 words_hold : AllHold word_rows
-unfolding word_rows step_at token_at name_length var_at fraction_length exponent_length fraction_at exponent_at number_at mark_at is_out runs_on is_letter is_name_byte is_blank is_mark is_double_mark opens closes
+unfolding word_rows step_at token_at name_length var_at fraction_len exponent_len fraction_at exponent_at number_at mark_at is_out runs_on is_letter is_name_byte is_blank is_mark is_double_mark opens closes
 words_hold = all_hold word_rows refl
 
 number_rows : List Row
@@ -105,7 +106,7 @@ number_rows =
     ∷ []
 
 numbers_hold : AllHold number_rows
-unfolding number_rows step_at token_at name_length fraction_length exponent_length fraction_at exponent_at number_at mark_at numeral_of is_out near_natural near units_said runs_on is_letter is_name_byte is_blank is_mark is_double_mark opens closes
+unfolding number_rows step_at token_at name_length fraction_len exponent_len fraction_at exponent_at number_at mark_at numeral_of is_out near_natural near units_said runs_on is_letter is_name_byte is_blank is_mark is_double_mark opens closes
 numbers_hold = all_hold number_rows refl
 
 string_rows : List Row
@@ -121,5 +122,5 @@ string_rows =
     ∷ []
 
 strings_hold : AllHold string_rows
-unfolding string_rows step_at token_at name_length fraction_length exponent_length fraction_at exponent_at number_at mark_at string_length pieces_at code_unit is_out runs_on is_letter is_name_byte is_blank is_mark is_double_mark opens closes
+unfolding string_rows step_at token_at name_length fraction_len exponent_len fraction_at exponent_at number_at mark_at string_length pieces_at code_unit is_out runs_on is_letter is_name_byte is_blank is_mark is_double_mark opens closes
 strings_hold = all_hold string_rows refl

@@ -1,13 +1,14 @@
 -- How the longest token at the front of a text is found. Nothing here is part of what a token is:
 -- `tokens` says that it is the same.
-use Rattle.std.specs.Prelude.{option_map, ℕ, ◌+◌, ◌-◌, Bool, true, false, ◌||◌, ◌&&◌, not, ◌==◌, nat_lt, if◌then◌else◌, List, [], ◌∷◌, take, drop, length, Option, Some, None, codes}
-use Rattle.std.specs.Char.{is_ascii_digit}
+use Rattle.std.specs.Prelude.{option_map, ℕ, ◌+◌, ◌-◌, Bool, true, false, ◌&&◌, not, ◌==◌, nat_lt, if◌then◌else◌, List, [], ◌∷◌, take, drop, length, Option, Some, None, codes}
 use Rattle.std.specs.List.{prefix_len}
+use Rattle.num_fixed.specs.Fronts.{fraction_len, exponent_len, fraction_of}
 use Rattle.num_fixed.specs.Numeral.{none, Numeral}
+use Rattle.num_fixed.specs.Scan.{digits_len}
 use Rattle.item_tree.specs.declared.code.Code.TheVariants.{XPST0003, PJST0004}
 use Rattle.num_fixed.specs.Values.{number_in_bounds, said}
 use Rattle.json_text.specs.inside.Scan.{Part, string_at}
-use Rattle.query_lexer.specs.Bytes.{is_letter, is_name_byte, is_blank, is_sign, is_mark, is_double_mark, next_passes}
+use Rattle.query_lexer.specs.Bytes.{is_letter, is_name_byte, is_blank, is_mark, is_double_mark, next_passes}
 use Rattle.query_lexer.specs.Comments.{begins_comment, comment_rest}
 use Rattle.query_lexer.specs.Lexes.{runs_on}
 use Rattle.query_lexer.specs.declared.token.TokenKind.{TokenKind}
@@ -36,30 +37,12 @@ var_at r =
 
 -- ---- numbers
 
-abbrev pub digits_length : List ℕ → ℕ
-digits_length r = prefix_len is_ascii_digit r
-
--- a point and at least one digit
-unfoldable pub fraction_length : List ℕ → ℕ
-fraction_length [] = 0
-fraction_length (b ∷ r) = if b == 46 && nat_lt 0 (digits_length r) then 1 + digits_length r else 0
-
-abbrev pub sign_length : List ℕ → ℕ
-sign_length [] = 0
-sign_length (b ∷ r) = if is_sign b then 1 else 0
-
--- e, an optional sign and at least one digit
-unfoldable pub exponent_length : List ℕ → ℕ
-exponent_length [] = 0
-exponent_length (b ∷ r) =
-    if (b == 101 || b == 69) && nat_lt 0 (digits_length (drop (sign_length r) r))
-    then 1 + sign_length r + digits_length (drop (sign_length r) r) else 0
-
+-- what the point and its digits, and the exponent, are behind the digits at the front
 unfoldable pub fraction_at : List ℕ → ℕ
-fraction_at text = fraction_length (drop (digits_length text) text)
+fraction_at text = fraction_len (drop (digits_len text) text)
 
 unfoldable pub exponent_at : List ℕ → ℕ
-exponent_at text = exponent_length (drop (digits_length text + fraction_at text) text)
+exponent_at text = exponent_len (drop (digits_len text + fraction_at text) text)
 
 -- the kind of the number whose fraction and exponent have these lengths
 abbrev pub number_kind : ℕ → ℕ → TokenKind
@@ -69,23 +52,18 @@ number_kind fraction exponent =
 -- the longest number
 unfoldable pub number_at : List ℕ → Option (TokenKind × ℕ)
 number_at text =
-    if nat_lt 0 (digits_length text + fraction_at text)
+    if nat_lt 0 (digits_len text + fraction_at text)
     then Some (
       number_kind (fraction_at text) (exponent_at text),
-      digits_length text + fraction_at text
-          + exponent_at text,
+      digits_len text + fraction_at text + exponent_at text,
     ) else None
-
-abbrev pub fraction_of : List ℕ → Option (List ℕ)
-fraction_of [] = None
-fraction_of (b ∷ r) = Some r
 
 -- the numeral of an Int or a Dec
 unfoldable pub numeral_of : List ℕ → Numeral
 numeral_of w = record {
   sign = none;
-  int = take (digits_length w) w;
-  frac = fraction_of (drop (digits_length w) w);
+  int = take (digits_len w) w;
+  frac = fraction_of (drop (digits_len w) w);
   exp = None;
 }
 

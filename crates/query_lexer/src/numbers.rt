@@ -1,80 +1,50 @@
 ghost use Rattle.std.specs.Prelude.{◌≡◌, ◌≤◌, length, IfSome, []};
-ghost use Rattle.std.specs.Char.{is_ascii_digit};
-ghost use Rattle.std.specs.List.{prefix_len};
 ghost use Rattle.num_fixed.specs.Numeral.{IsNumeral};
+ghost use Rattle.num_fixed.specs.Scan.{minus_at};
 ghost use Rattle.query_lexer.specs.Lexes.{is_number, runs_on};
-ghost use Rattle.query_lexer.specs.Scan.{fraction_length, sign_length, exponent_length, number_at, numeral_of, is_out_number, is_out};
+ghost use Rattle.query_lexer.specs.Scan.{number_at, number_kind, numeral_of, is_out_number, is_out};
 ghost use Rattle.query_lexer.specs.Words.{Fits};
 
 use crate::TokenKind;
 use crate::bytes::next_is_letter;
-use num_fixed::read_number;
+use num_fixed::{number_front, read_number};
 
-fn digits(text: &[u8]) -> usize
-    ensures value { result ≡ prefix_len is_ascii_digit text.now }
-    ensures within { result ≤ length text.now }
+/// The kind of the number whose fraction and exponent have these lengths.
+fn number_kind(fraction: usize, exponent: usize) -> TokenKind
+    ensures { result ≡ number_kind fraction exponent }
 {
-    text.iter().take_while(|b| b.is_ascii_digit()).count()
-}
-
-/// The length of a point and the digits behind it, or 0.
-#[tactic(auto, unfolding(crate::specs::Scan::fraction_length))]
-fn fraction_length(text: &[u8]) -> usize
-    ensures value { result ≡ fraction_length text.now }
-    ensures within { result ≤ length text.now }
-{
-    let [b'.', rest @ ..] = text else { return 0 };
-    let n = digits(rest);
-    if n > 0 { 1 + n } else { 0 }
-}
-
-fn sign_length(text: &[u8]) -> usize
-    ensures value { result ≡ sign_length text.now }
-    ensures within { result ≤ length text.now }
-{
-    match text {
-        [first, ..] if *first == b'+' || *first == b'-' => 1,
-        _ => 0,
-    }
-}
-
-/// The length of an exponent, or 0.
-#[tactic(auto, unfolding(crate::specs::Scan::exponent_length))]
-fn exponent_length(text: &[u8]) -> usize
-    ensures value { result ≡ exponent_length text.now }
-    ensures within { result ≤ length text.now }
-{
-    match text {
-        [first, rest @ ..] if *first == b'e' || *first == b'E' => {
-            let sign = sign_length(rest);
-            let n = digits(&rest[sign..]);
-            if n > 0 { 1 + sign + n } else { 0 }
-        }
-        _ => 0,
-    }
-}
-
-/// The number at the front, and its length.
-#[tactic(auto, unfolding(crate::specs::Scan::number_at, crate::specs::Scan::fraction_at, crate::specs::Scan::exponent_at))]
-pub(crate) fn number_at(text: &[u8]) -> Option<(TokenKind, usize)>
-    ensures value { result ≡ number_at text.now }
-    ensures within { IfSome result (λ x. x.1 ≤ length text.now) }
-{
-    let whole = digits(text);
-    let fraction = fraction_length(&text[whole..]);
-    let mantissa = whole + fraction;
-    if mantissa == 0 {
-        return None;
-    }
-    let exponent = exponent_length(&text[mantissa..]);
-    let kind = if exponent > 0 {
+    if exponent > 0 {
         TokenKind::Double
     } else if fraction > 0 {
         TokenKind::Dec
     } else {
         TokenKind::Int
-    };
-    Some((kind, mantissa + exponent))
+    }
+}
+
+fn begins_with_minus(text: &[u8]) -> bool
+    ensures { result ≡ minus_at text.now }
+{
+    match text {
+        [b'-', ..] => true,
+        _ => false,
+    }
+}
+
+/// The number at the front, and its length.
+#[tactic(auto, using(crate::proofs::FrontLemmas::front_steps))]
+pub(crate) fn number_at(text: &[u8]) -> Option<(TokenKind, usize)>
+    ensures value { result ≡ number_at text.now }
+    ensures within { IfSome result (λ x. x.1 ≤ length text.now) }
+{
+    // A minus is a mark.
+    if begins_with_minus(text) {
+        return None;
+    }
+    let front = number_front(text)?;
+    let fraction = front.fraction_end - front.whole_end;
+    let exponent = front.end - front.fraction_end;
+    Some((number_kind(fraction, exponent), front.end))
 }
 
 fn is_number(kind: TokenKind) -> bool

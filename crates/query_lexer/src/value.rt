@@ -32,11 +32,6 @@ pub fn text_value(alloc: Global, text: &str, token: &Token) -> Result<Str, NoMem
     ensures { IfOk result (λ v. IsString v (spelling text.now token.now) []) }
 {
     let bytes = text.as_bytes();
-    match spelled_bytes(alloc, &bytes[token.from as usize + 1..]) {
-        Ok(value) => {
-            let value = String::from_utf8(value).unwrap();
-            Str::from_string(alloc, value)
-        }
-        Err(_) => Err(NoMemory),
-    }
+    let value = spelled_bytes(alloc, &bytes[token.from as usize + 1..])?;
+    Str::from_string(alloc, String::from_utf8(value).unwrap())
 }
