@@ -1,4 +1,4 @@
--- The tokens of a text are the words of at most one list. For other crates too.
+-- The tokens of a text are the words of at most one list, wherever the text begins. For other crates too.
 use Rattle.std.proofs.Common.{◌≡◌, ℕ, List, [], ◌∷◌, Option, Some, None, refl, sym, ◌∙◌, ap, subst}
 use Rattle.std.specs.Str.{chars}
 use Rattle.num_fixed.specs.Numeral.{Numeral, IsNumeral, Says}
@@ -50,15 +50,15 @@ one_meaning t.Double w k l a b h g = (h.0 ∙ sym g.0, h.1 ∙ sym g.1)
 one_meaning t.Text w k l a b (e, cs, is, string) (f, ds, same, other) = (e ∙ sym f, is ∙ ap v.Text (one_string cs ds w string other) ∙ sym same)
 one_meaning t.Mark w k l a b h g = (h.0 ∙ sym g.0, h.1 ∙ sym g.1)
 
-one_word : (text : List ℕ) (token : Token) (w other : Word) → IsWordOf text token w → IsWordOf text token other → w ≡ other
-one_word text token w other h g =
+one_word : (start : ℕ) (text : List ℕ) (token : Token) (w other : Word) → IsWordOf start text token w → IsWordOf start text token other → w ≡ other
+one_word start text token w other h g =
     let same = one_meaning token.kind _ w.kind other.kind w.value other.value h.means g.means in
     let kinds : w ≡ record { kind = other.kind; place = w.place; value = w.value } = ap (λ k. record { kind = k; place = w.place; value = w.value }) same.0 in
     let places : record { kind = other.kind; place = w.place; value = w.value } ≡ record { kind = other.kind; place = other.place; value = w.value } = ap (λ p. record { kind = other.kind; place = p; value = w.value }) (h.place ∙ sym g.place) in
     kinds ∙ places ∙ ap (λ x. record { kind = other.kind; place = other.place; value = x }) same.1
 
-pub one_reading : (text : List ℕ) (tokens : List Token) → HasOneReading text tokens
-one_reading text [] ws os h g = h ∙ sym g
-one_reading text (t ∷ ts) [] os h g = absurd h
-one_reading text (t ∷ ts) (w ∷ ws) [] h g = absurd g
-one_reading text (t ∷ ts) (w ∷ ws) (o ∷ os) h g = let e = one_word text t w o h.0 g.0 in let f = one_reading text ts ws os h.1 g.1 in rw (e, f) refl
+pub one_reading : (start : ℕ) (text : List ℕ) (tokens : List Token) → HasOneReading start text tokens
+one_reading start text [] ws os h g = h ∙ sym g
+one_reading start text (t ∷ ts) [] os h g = absurd h
+one_reading start text (t ∷ ts) (w ∷ ws) [] h g = absurd g
+one_reading start text (t ∷ ts) (w ∷ ws) (o ∷ os) h g = let e = one_word start text t w o h.0 g.0 in let f = one_reading start text ts ws os h.1 g.1 in rw (e, f) refl

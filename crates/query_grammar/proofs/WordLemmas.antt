@@ -12,7 +12,7 @@ use Rattle.query_lexer.specs.Lexes.{IsTokenOf, spelling}
 use Rattle.query_lexer.proofs.TokenFacts.{IsAnswer, number_text, token_spelled}
 use Rattle.query_lexer.proofs.BoundaryLemmas.{token_ends}
 use Rattle.query_grammar.specs.declared.word.Word.{Word}
-use Rattle.query_grammar.specs.Words.{IsWordOf, AreWords}
+use Rattle.query_grammar.specs.Words.{IsWordOf, AreWordsAt}
 
 -- a token begins with an ASCII byte
 pub record HasAsciiFirst (w : List ℕ) : Type 0 where
@@ -35,11 +35,11 @@ number_said text token w x r of kind is a e =
     (n, h, v.0, v.1)
 
 -- one more token, and its word
-words_behind : (text : List ℕ) (ts : List Token) (ws : List Word) (t : Token) (w : Word) → AreWords text ts ws → IsWordOf text t w → AreWords text (ts ++ t ∷ []) (ws ++ w ∷ [])
-words_behind text [] [] t w h one = (one, refl)
-words_behind text [] (v ∷ ws) t w h one = cc
-words_behind text (s ∷ ts) [] t w h one = absurd h
-words_behind text (s ∷ ts) (v ∷ ws) t w h one = (h.0, words_behind text ts ws t w h.1 one)
+words_behind : (start : ℕ) (text : List ℕ) (ts : List Token) (ws : List Word) (t : Token) (w : Word) → AreWordsAt start text ts ws → IsWordOf start text t w → AreWordsAt start text (ts ++ t ∷ []) (ws ++ w ∷ [])
+words_behind start text [] [] t w h one = (one, refl)
+words_behind start text [] (v ∷ ws) t w h one = cc
+words_behind start text (s ∷ ts) [] t w h one = absurd h
+words_behind start text (s ∷ ts) (v ∷ ws) t w h one = (h.0, words_behind start text ts ws t w h.1 one)
 
-pub words_more : (text : List ℕ) (ts : List Token) (ws more : List Word) (i : ℕ) (d : Token) (w : Word) → i < length ts → more ≡ ws ++ w ∷ [] → AreWords text (take i ts) ws → IsWordOf text (get_or ts i d) w → AreWords text (take (i + 1) ts) more
-words_more text ts ws more i d w within is h one = rw (is, take_more ts i d within) (words_behind text (take i ts) ws (get_or ts i d) w h one)
+pub words_more : (start : ℕ) (text : List ℕ) (ts : List Token) (ws more : List Word) (i : ℕ) (d : Token) (w : Word) → i < length ts → more ≡ ws ++ w ∷ [] → AreWordsAt start text (take i ts) ws → IsWordOf start text (get_or ts i d) w → AreWordsAt start text (take (i + 1) ts) more
+words_more start text ts ws more i d w within is h one = rw (is, take_more ts i d within) (words_behind start text (take i ts) ws (get_or ts i d) w h one)

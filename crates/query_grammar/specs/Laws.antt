@@ -4,7 +4,7 @@ use Rattle.item_tree.specs.declared.code.Code.{Code}
 use Rattle.query_lexer.specs.declared.token.Token.{Token}
 use Rattle.query_grammar.specs.declared.word.Word.{Word}
 use Rattle.query_grammar.specs.Nodes.{Module}
-use Rattle.query_grammar.specs.Words.{AreWords}
+use Rattle.query_grammar.specs.Words.{AreWordsAt}
 use Rattle.query_tree.specs.Nesting.{module_nesting}
 use Rattle.query_tree.specs.Spines.{commas_apart}
 use Rattle.query_grammar.specs.Texts.{Derives, DerivesWithin, DerivesWithoutBound, IsRefused, max_nesting}
@@ -27,10 +27,10 @@ IsNeverBoth words end =
     (tree : Module) (code : Code) (place : ℕ) → Derives words tree
     → IsRefused words end code place → ⊥
 
-abbrev pub HasOneReading : List ℕ → List Token → Type 0
-HasOneReading text tokens =
-    (words others : List Word) → AreWords text tokens words → AreWords text tokens others
-    → words ≡ others
+abbrev pub HasOneReading : ℕ → List ℕ → List Token → Type 0
+HasOneReading start text tokens =
+    (words others : List Word) → AreWordsAt start text tokens words
+    → AreWordsAt start text tokens others → words ≡ others
 
 -- Where at most n forms may nest, the words derive exactly the trees that they derive without a
 -- bound and that are nested no deeper than n.

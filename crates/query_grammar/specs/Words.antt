@@ -1,5 +1,5 @@
 -- What the tokens of a query are to the grammar: its keywords and marks, and what each token says.
-use Rattle.std.specs.Prelude.{◌≡◌, ℕ, ℤ, List, [], ◌∷◌, drop, codes, if◌then◌else◌}
+use Rattle.std.specs.Prelude.{◌≡◌, ℕ, ◌+◌, ℤ, List, [], ◌∷◌, drop, codes, if◌then◌else◌}
 use Rattle.std.specs.Str.{bytes_eq, chars}
 use Rattle.num_fixed.specs.Numeral.{Numeral, IsNumeral, Says}
 use Rattle.num_fixed.specs.declared.number.Number.TheVariants as number
@@ -159,14 +159,15 @@ Means t.Double w kind value = (kind ≡ k.Double) × (value ≡ v.Nothing)
 Means t.Text w kind value = (kind ≡ k.Text) × (cs : List ℕ) × (value ≡ v.Text cs) × IsString cs w []
 Means t.Mark w kind value = (kind ≡ mark_kind w) × (value ≡ v.Nothing)
 
--- a token of a text, as the grammar reads it
-pub record IsWordOf (text : List ℕ) (token : Token) (word : Word) : Type 0 where
-  pub place : word.place ≡ token.from
+-- a token of a text that stands behind so many other bytes, as the grammar reads it: its place
+-- counts from the first of these
+pub record IsWordOf (start : ℕ) (text : List ℕ) (token : Token) (word : Word) : Type 0 where
+  pub place : word.place ≡ start + token.from
   pub means : Means token.kind (spelling text token) word.kind word.value
 
 -- the tokens in their order, as the grammar reads them
-abbrev pub AreWords : List ℕ → List Token → List Word → Type 0
-AreWords text [] words = words ≡ []
-AreWords text (token ∷ tokens) [] = ⊥
-AreWords text (token ∷ tokens) (word ∷ words) =
-    IsWordOf text token word × AreWords text tokens words
+abbrev pub AreWordsAt : ℕ → List ℕ → List Token → List Word → Type 0
+AreWordsAt start text [] words = words ≡ []
+AreWordsAt start text (token ∷ tokens) [] = ⊥
+AreWordsAt start text (token ∷ tokens) (word ∷ words) =
+    IsWordOf start text token word × AreWordsAt start text tokens words

@@ -20,9 +20,10 @@ pub fn tree_or_refusal()
     ensures one { (words : List Word) → (end : ℕ) → HasOneRefusal words end }
 {}
 
-/// The tokens of a text are the words of at most one list.
+/// The tokens of a text are the words of at most one list, wherever the text begins.
 pub fn one_reading()
-    ensures { (text : List ℕ) → (tokens : List Token) → HasOneReading text tokens }
+    ensures { (start : ℕ) → (text : List ℕ) → (tokens : List Token)
+        → HasOneReading start text tokens }
 {}
 
 /// The bound of the grammar is one on the nesting of trees: where at most `n` forms may nest, a

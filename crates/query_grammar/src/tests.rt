@@ -9,7 +9,7 @@ fn shown(alloc: Global, text: &str) -> Result<String, Fail> {
     let Ok(list) = tokens(alloc, text) else {
         return Err(Fail::from("no tokens"));
     };
-    let Ok(words) = words_of(alloc, text, list.as_slice()) else {
+    let Ok(words) = words_of(alloc, text, list.as_slice(), 0) else {
         return Err(Fail::from("no memory"));
     };
     for word in &words {

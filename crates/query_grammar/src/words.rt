@@ -6,7 +6,7 @@ ghost use Rattle.num_fixed.specs.Numeral.{Numeral, IsNumeral, Says};
 ghost use Rattle.num_fixed.specs.declared.number.Number.TheVariants as number;
 ghost use Rattle.query_lexer.specs.Lexes.{AreTokens, IsTokenOf, spelling};
 ghost use Rattle.query_lexer.specs.declared.token.TokenKind.TheVariants as t;
-ghost use Rattle.query_grammar.specs.Words.{kind_in, declaration_keywords, clause_keywords, statement_keywords, operator_keywords, name_kind, mark_kind, Means, IsWordOf, AreWords};
+ghost use Rattle.query_grammar.specs.Words.{kind_in, declaration_keywords, clause_keywords, statement_keywords, operator_keywords, name_kind, mark_kind, Means, IsWordOf, AreWordsAt};
 
 use crate::{Kind, Value, Word};
 use item_tree::{NoMemory, Str, Units, Whole};
@@ -222,32 +222,35 @@ fn meaning(alloc: Global, text: &str, token: &Token) -> Result<(Kind, Value), No
     }
 }
 
-/// A token of a text, as the grammar reads it.
-fn word_of(alloc: Global, text: &str, token: &Token) -> Result<Word, NoMemory>
+/// A token of a text that stands behind `start` other bytes, as the grammar reads it.
+fn word_of(alloc: Global, text: &str, token: &Token, start: u32) -> Result<Word, NoMemory>
     requires { IsTokenOf text.now token.now }
-    ensures { IfOk result (λ word. IsWordOf text.now token.now word) }
+    ensures { IfOk result (λ word. IsWordOf start text.now token.now word) }
 {
+    let Some(place) = start.checked_add(token.from) else {
+        return Err(NoMemory)
+    };
     let (kind, value) = meaning(alloc, text, token)?;
-    Ok(Word {
-        kind,
-        place: token.from,
-        value,
-    })
+    Ok(Word { kind, place, value })
 }
 
-/// The words of tokens that stand one after another in a text: one a token, in their order.
-pub fn words_of(alloc: Global, text: &str, tokens: &[Token]) -> Result<Vec<Word>, NoMemory>
+/// The words of tokens that stand one after another in a text: one a token, in their order. The
+/// text stands behind `start` other bytes, and places count from the first of these. `NoMemory` is
+/// also the answer where a place would need more than 32 bits.
+pub fn words_of(
+    alloc: Global,
+    text: &str,
+    tokens: &[Token],
+    start: u32,
+) -> Result<Vec<Word>, NoMemory>
     // The tokens are some that `query_lexer::tokens` gives for this text.
     requires { AreTokens text.now tokens.now }
-    ensures { IfOk result (λ v. AreWords text.now tokens.now v.items) }
+    ensures { IfOk result (λ v. AreWordsAt start text.now tokens.now v.items) }
 {
     let mut words = Vec::new(alloc);
     for token in tokens {
-        let word = word_of(alloc, text, token)?;
-        match words.push(word) {
-            Ok(()) => {}
-            Err(_) => return Err(NoMemory),
-        }
+        let word = word_of(alloc, text, token, start)?;
+        words.push(word)?;
     }
     Ok(words)
 }

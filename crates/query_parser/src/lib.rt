@@ -10,7 +10,7 @@ mod reading;
 mod statements;
 mod values;
 
-pub use reading::{ParseFault, parse};
+pub use reading::{ParseFault, parse, parse_at};
 
 #[cfg(test)]
 mod tests;

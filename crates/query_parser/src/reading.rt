@@ -4,11 +4,10 @@ ghost use Rattle.std.specs.Prelude.{◌≡◌, ℕ, List, length, MatchResult, M
 ghost use Rattle.grammar_parts.specs.Refusals.{Reached, outcome_of};
 ghost use Rattle.query_lexer.specs.Lexes.{AreTokens};
 ghost use Rattle.query_grammar.specs.Nodes.{Module};
-ghost use Rattle.query_grammar.specs.Words.{AreWords};
 ghost use Rattle.query_grammar.specs.Texts.{Derives, BeginsWithoutBound, IsCodeOf, part_of, query};
 ghost use Rattle.query_grammar.specs.declared.word.Word.{Word};
 ghost use Rattle.query_parser.specs.Views.{module_of};
-ghost use Rattle.query_parser.specs.Queries.{IsQuery, AreRefused, IsFault};
+ghost use Rattle.query_parser.specs.Queries.{IsQuery, IsQueryAt, AreRefused, IsFault, IsFaultAt};
 ghost use Rattle.query_parser.specs.declared.reading.ParseFault.TheVariants.{NoMemory};
 
 use crate::modules::Top;
@@ -126,6 +125,34 @@ fn query_of(alloc: Global, words: &[Word], end: u32) -> Result<Query, ParseFault
     }
 }
 
+/// The query of the tokens of a text that stands behind `start` other bytes, or where and why they
+/// are refused, in time linear in the text. Places count from the first of those bytes.
+pub fn parse_at(
+    alloc: Global,
+    text: &str,
+    tokens: &[Token],
+    start: u32,
+) -> Result<Query, ParseFault>
+    // The tokens are some that `query_lexer::tokens` gives for this text.
+    requires { AreTokens text.now tokens.now }
+    // What is read is in the grammar.
+    ensures found { IfOk result (λ query. IsQueryAt start text.now tokens.now (module_of query)) }
+    // What is in the grammar is read, unless memory runs out. So there is at most one tree.
+    ensures only { (tree : Module) → IsQueryAt start text.now tokens.now tree
+        → MatchResult result (λ query. module_of query ≡ tree) (λ f. f ≡ NoMemory) }
+    // What is refused is refused at the first token that goes on with no beginning, with its code.
+    ensures refused { IfErr result (λ f. IsFaultAt start text.now tokens.now f) }
+{
+    let bytes = text.as_bytes();
+    if bytes.len() > (u32::MAX - start) as usize {
+        return Err(ParseFault::NoMemory);
+    }
+    let Ok(words) = words_of(alloc, text, tokens, start) else {
+        return Err(ParseFault::NoMemory);
+    };
+    query_of(alloc, &words, start + bytes.len() as u32)
+}
+
 /// The query of a text's tokens, or where and why they are refused, in time linear in the text.
 pub fn parse(alloc: Global, text: &str, tokens: &[Token]) -> Result<Query, ParseFault>
     // The tokens are some that `query_lexer::tokens` gives for this text.
@@ -138,12 +165,5 @@ pub fn parse(alloc: Global, text: &str, tokens: &[Token]) -> Result<Query, Parse
     // What is refused is refused at the first token that goes on with no beginning, with its code.
     ensures refused { IfErr result (λ f. IsFault text.now tokens.now f) }
 {
-    let bytes = text.as_bytes();
-    if bytes.len() > u32::MAX as usize {
-        return Err(ParseFault::NoMemory);
-    }
-    let Ok(words) = words_of(alloc, text, tokens) else {
-        return Err(ParseFault::NoMemory);
-    };
-    query_of(alloc, &words, bytes.len() as u32)
+    parse_at(alloc, text, tokens, 0)
 }

@@ -6,4 +6,4 @@ pub word_of-requires : goal.word_of-requires
 word_of-requires c = token_indexed c.args.text.now c.args.tokens.now c.loop-token.token-index _ c.requires c.loop-token-test.true
 
 pub loop-token-preserved : goal.loop-token-preserved
-loop-token-preserved c = words_more _ _ _ _ _ _ c.in_ok-word.word c.loop-token-test.true c.in-Ok.ensures.items c.loop-token.invariant c.in_ok-word.ensures
+loop-token-preserved c = words_more _ _ _ _ _ _ _ c.in_ok-word.word c.loop-token-test.true c.in_ok-push.ensures.items c.loop-token.invariant c.in_ok-word.ensures
