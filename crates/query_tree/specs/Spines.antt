@@ -1,6 +1,6 @@
--- The spine of an expression. The expression itself is on it; and of parentheses, a comma or a `try`
--- that is on it, so are the content, each operand and the tried body. Every other expression on it
--- is a leaf.
+-- The spine of an expression. The expression itself is on it; and of parentheses, a comma or a
+-- `try` that is on it, so are the content, each operand and the tried body. Every other
+-- expression on it is a leaf.
 use Rattle.std.specs.Prelude.{ℕ, ◌+◌, Bool, true, false, ◌&&◌, not, max}
 use Rattle.query_tree.specs.Plain as p
 use Rattle.query_tree.specs.Plain.{Tree, Form, MaybeTree, PlainOperand, PlainOperands}

@@ -1,3 +1,3 @@
-/// Drops a tree. It is generic, so that a check needs no proof of its own of the drop of each kind of
-/// tree: hand every tree that is given up, or is done with, to it.
+/// Drops a tree. It is generic, so that a check needs no proof of its own for each kind of tree:
+/// hand every tree that is given up, or is done with, to it.
 pub fn discard<A: Drop>(_tree: A) {}

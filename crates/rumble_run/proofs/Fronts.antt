@@ -1,5 +1,5 @@
 -- Every query has one front.
-use Rattle.std.proofs.Common.{◌≡◌, ◌⊎◌, inl, inr, ◌<◌, ◌≤◌, ℕ, zero, suc, List, length, take, Bool, true, false, Option, None, Some, Ok, refl, sym, ap, ◌∙◌, subst, arith}
+use Rattle.std.proofs.Common.{◌≡◌, ◌⊎◌, inl, inr, ◌<◌, ◌≤◌, ◌+◌, ℕ, zero, suc, List, length, take, Bool, true, false, Option, None, Some, Ok, refl, sym, ap, ◌∙◌, subst, arith}
 use Rattle.std.specs.Prelude.{IfSome}
 use Rattle.std.specs.Str.{IsUtf8, IsValidUpTo, is_utf8}
 use Rattle.std.proofs.Math.Nat.{eq-or-lt_of_le}
@@ -15,7 +15,7 @@ use Rattle.query_grammar.specs.Laws.{IsDecided}
 use Rattle.query_tree.specs.Compiled.{CompiledTree, bound_trees}
 use Rattle.query_grammar.specs.Nodes.{Module}
 use Rattle.query_grammar.specs.Texts.{Derives, IsRefused}
-use Rattle.query_grammar.specs.Words.{AreWords}
+use Rattle.query_grammar.specs.Words.{AreWordsAt}
 use Rattle.query_grammar.specs.declared.word.Word.{Word}
 use Rattle.query_lexer.proofs.PathLemmas as lexer
 use Rattle.query_grammar.proofs.Texts as grammar
@@ -76,12 +76,12 @@ breaks bytes e = (l.place, record { short = short (eq-or-lt_of_le l.within); bef
 front_of_text : (text : List ℕ) → IsUtf8 text → (front : Front) × IsFrontOfText text front
 front_of_text text u = by (lexer.either text)
   where
-    by_tree : (tokens : List Token) (words : List Word) → Tokens text tokens → AreWords text tokens words → IsDecided words (length text) → (front : Front) × IsFrontOfText text front
+    by_tree : (tokens : List Token) (words : List Word) → Tokens text tokens → AreWordsAt 0 text tokens words → IsDecided words (0 + length text) → (front : Front) × IsFrontOfText text front
     by_tree tokens words t ws (inl (tree, d)) = (static_front tree, inr (tokens, t, inr (tree, (words, ws, d), refl)))
     by_tree tokens words t ws (inr (code, place, r)) = (refused_at code place, inr (tokens, t, inl (code, place, (words, ws, r), refl)))
 
     by : ((tokens : List Token) × Tokens text tokens) ⊎ ((code : Code) × (place : ℕ) × Refused text code place) → (front : Front) × IsFrontOfText text front
-    by (inl (tokens, t)) = let ws : (words : List Word) × AreWords text tokens words = words_of_text text tokens u t in by_tree tokens ws.0 t ws.1 (grammar.decided ws.0 (length text))
+    by (inl (tokens, t)) = let ws : (words : List Word) × AreWordsAt 0 text tokens words = words_of_text text tokens u t in by_tree tokens ws.0 t ws.1 (grammar.decided ws.0 (0 + length text))
     by (inr (code, place, r)) = (refused_at code place, inl (code, place, r, refl))
 
 front_behind_mark : (bytes : List ℕ) → (front : Front) × IsFrontBehindMark bytes front
@@ -129,13 +129,13 @@ broken query bytes place short is v =
 
 one_of_tokens : (text : List ℕ) (tokens : List Token) (front other : Front) → IsFrontOfTokens text tokens front → IsFrontOfTokens text tokens other → front ≡ other
 one_of_tokens text tokens front other (inr (tree, (words, are, d), e)) (inr (second, (others, were, g), f)) =
-    e ∙ ap static_front (grammar.one_tree words tree second d (subst (λ ws. Derives ws second) (one_reading text tokens others words were are) g)) ∙ sym f
+    e ∙ ap static_front (grammar.one_tree words tree second d (subst (λ ws. Derives ws second) (one_reading 0 text tokens others words were are) g)) ∙ sym f
 one_of_tokens text tokens front other (inr (tree, (words, are, d), e)) (inl (code, place, (others, were, r), f)) =
-    absurd ((subst (λ ws. IsRefused ws (length text) code place) (one_reading text tokens others words were are) r).derives_none tree d)
+    absurd ((subst (λ ws. IsRefused ws (0 + length text) code place) (one_reading 0 text tokens others words were are) r).derives_none tree d)
 one_of_tokens text tokens front other (inl (code, place, (words, are, r), e)) (inr (tree, (others, were, d), f)) =
-    absurd (r.derives_none tree (subst (λ ws. Derives ws tree) (one_reading text tokens others words were are) d))
+    absurd (r.derives_none tree (subst (λ ws. Derives ws tree) (one_reading 0 text tokens others words were are) d))
 one_of_tokens text tokens front other (inl (code, place, (words, are, r), e)) (inl (second, at, (others, were, q), f)) =
-    let s = grammar.one_refusal words (length text) code second place at r (subst (λ ws. IsRefused ws (length text) second at) (one_reading text tokens others words were are) q) in
+    let s = grammar.one_refusal words (0 + length text) code second place at r (subst (λ ws. IsRefused ws (0 + length text) second at) (one_reading 0 text tokens others words were are) q) in
     e ∙ ap (λ c. refused_at c place) s.0 ∙ ap (refused_at second) s.1 ∙ sym f
 
 one_of_text : (text : List ℕ) (front other : Front) → IsFrontOfText text front → IsFrontOfText text other → front ≡ other

@@ -21,7 +21,7 @@ use Rattle.query_grammar.specs.declared.word.Kind.{Kind}
 use Rattle.query_grammar.specs.declared.word.Kind.TheVariants as k
 use Rattle.query_grammar.specs.declared.word.Value.{Value}
 use Rattle.query_grammar.specs.declared.word.Value.TheVariants as v
-use Rattle.query_grammar.specs.Words.{name_kind, mark_kind, Means, IsWordOf, AreWords}
+use Rattle.query_grammar.specs.Words.{name_kind, mark_kind, Means, IsWordOf, AreWordsAt}
 
 pub record HasMeaning (kind : TokenKind) (w : List ℕ) : Type 0 where
   pub of : Kind
@@ -46,12 +46,12 @@ meaning text token u of t.Double is fits = record { of = k.Double; value = v.Not
 meaning text token u of t.Text is fits = let s = token_valued text token u of is in record { of = k.Text; value = v.Text (chars (content s.pieces)); means = (refl, chars (content s.pieces), refl, s.string) }
 meaning text token u of t.Mark is fits = record { of = mark_kind (spelling text token); value = v.Nothing; means = (refl, refl) }
 
-word_of : (text : List ℕ) (token : Token) → IsUtf8 text → IsTokenOf text token → (w : Word) × IsWordOf text token w
+word_of : (text : List ℕ) (token : Token) → IsUtf8 text → IsTokenOf text token → (w : Word) × IsWordOf 0 text token w
 word_of text token u of =
     let m = meaning text token u of token.kind refl (token_spelled text token of).fits in
-    (record { kind = m.of; place = token.from; value = m.value }, record { place = refl; means = m.means })
+    (record { kind = m.of; place = token.from; value = m.value }, record { place = omega arith; means = m.means })
 
-words_of : (text : List ℕ) (tokens : List Token) → IsUtf8 text → ((token : Token) → Contains tokens token → IsTokenOf text token) → (ws : List Word) × AreWords text tokens ws
+words_of : (text : List ℕ) (tokens : List Token) → IsUtf8 text → ((token : Token) → Contains tokens token → IsTokenOf text token) → (ws : List Word) × AreWordsAt 0 text tokens ws
 words_of text [] u of = ([], refl)
 words_of text (token ∷ tokens) u of =
     let first = word_of text token u (of token (zero, omega arith, refl)) in
@@ -59,5 +59,5 @@ words_of text (token ∷ tokens) u of =
     (first.0 ∷ rest.0, (first.1, rest.1))
 
 -- the tokens of a text are words
-pub words_of_text : (text : List ℕ) (tokens : List Token) → IsUtf8 text → Tokens text tokens → (ws : List Word) × AreWords text tokens ws
+pub words_of_text : (text : List ℕ) (tokens : List Token) → IsUtf8 text → Tokens text tokens → (ws : List Word) × AreWordsAt 0 text tokens ws
 words_of_text text tokens u whole = words_of text tokens u (λ token c. record { all = tokens; whole = whole; listed = c })
