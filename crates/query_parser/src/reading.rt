@@ -11,12 +11,11 @@ ghost use Rattle.query_parser.specs.Queries.{IsQuery, IsQueryAt, AreRefused, IsF
 ghost use Rattle.query_parser.specs.declared.reading.ParseFault.TheVariants.{NoMemory};
 
 use crate::modules::Top;
-use expression_parser::gather::discard;
 use grammar_parts::{Cursor, Stop};
 use item_tree::Code;
 use query_grammar::{Word, words_of};
 use query_lexer::Token;
-use query_tree::Query;
+use query_tree::{Query, discard};
 use std::alloc::Global;
 
 /// Why a text is no query.

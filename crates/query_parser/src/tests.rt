@@ -1,6 +1,6 @@
 use crate::{ParseFault, parse};
-use expression_parser::gather::discard;
 use query_lexer::tokens;
+use query_tree::discard;
 use std::alloc::Global;
 use std::test::Fail;
 
