@@ -1,0 +1,1 @@
+json-lines("january.jsonl", "february.jsonl", "january.jsonl")
