@@ -1,5 +1,5 @@
 -- A compiled expression has the spine of the expression that was read.
-use Rattle.std.proofs.Common.{◌≡◌, ℕ, Bool, ◌&&◌, not, List, refl, ap, ◌∙◌}
+use Rattle.std.proofs.Common.{◌≡◌, ℕ, Bool, ◌&&◌, not, List, [], refl, ap, ◌∙◌}
 use Rattle.query_tree.specs.declared.names.TypeName.{TypeName}
 use Rattle.query_tree.specs.Binders
 use Rattle.query_tree.specs.Plain as p
@@ -7,6 +7,7 @@ use Rattle.query_tree.specs.Plain.{Form, MaybeTree, PlainOperand, PlainOperands}
 use Rattle.query_tree.specs.Spines.{spine, form_spine, content_spine, operand_spine, operands_spine, is_comma, is_comma_form, commas_apart, form_apart, content_apart, operand_apart, operands_apart}
 use Rattle.static_rules.specs.Views.{NamedTree}
 use Rattle.static_rules.specs.Laws.{CompilingKeepsSpines}
+use Rattle.static_rules.proofs.KeptDeclarations.{variables-kept, functions-kept}
 use Rattle.static_rules.proofs.Nestings.{more, two}
 use Rattle.static_rules.specs.Compiling.{Names, past, body_names, compiled, compiled_form, compiled_content, compiled_operand, compiled_operands}
 
@@ -64,6 +65,10 @@ mutual
 
 pub keeps_spines : CompilingKeepsSpines
 keeps_spines = record {
-  spines = λ q. tree-spine (body_names q) 0 q.body;
-  commas = λ q. tree-apart (body_names q) 0 q.body;
+  variables = λ q. variables-kept spine spine tree-spine [] 0 q.variables;
+  functions = λ q. functions-kept spine spine tree-spine (body_names q) 0 q.functions;
+  body = λ q. tree-spine (body_names q) 0 q.body;
+  variables_apart = λ q. variables-kept commas_apart commas_apart tree-apart [] 0 q.variables;
+  functions_apart = λ q. functions-kept commas_apart commas_apart tree-apart (body_names q) 0 q.functions;
+  body_apart = λ q. tree-apart (body_names q) 0 q.body;
 }

@@ -1,5 +1,6 @@
 pub mod EarliestRefusals
 mod Agreement
+mod KeptDeclarations
 mod KeptSpines
 mod Nestings
 mod Numbers

@@ -1,18 +1,15 @@
 -- A compiled expression is nested as the expression that was read.
-use Rattle.std.proofs.Common.{◌≡◌, ℕ, ◌+◌, max, List, [], ◌∷◌, refl, ap, ◌∙◌}
-use Rattle.std.specs.Prelude.{length, map}
-use Rattle.query_tree.specs.declared.bound.Slot.{Slot}
-use Rattle.query_tree.specs.declared.bound.Slot.TheVariants.{Local, Global}
+use Rattle.std.proofs.Common.{◌≡◌, ℕ, ◌+◌, max, List, [], refl, ap, ◌∙◌}
+use Rattle.query_tree.specs.declared.bound.Slot.TheVariants.{Local}
 use Rattle.query_tree.specs.declared.names.TypeName.{TypeName}
 use Rattle.query_tree.specs.Binders
-use Rattle.query_tree.specs.Modules.{PlainVariable, PlainFunction}
 use Rattle.query_tree.specs.Nesting as nests
-use Rattle.query_tree.specs.Nesting.{variable_nesting, function_nesting}
 use Rattle.query_tree.specs.Plain as p
 use Rattle.query_tree.specs.Plain.{Form, MaybeTree, PlainOperand, PlainOperands, PlainTerm, PlainTerms, PlainFactor, PlainFactors, PlainBind, PlainBinds, PlainCase, PlainCases, PlainTypeCase, PlainTypeCases, PlainCatch, PlainCatches, PlainPair, PlainPairs, PlainStep, PlainSteps, PlainLookup, PlainClause, PlainClauses, PlainGroupVar, PlainGroupVars, PlainOrderKey, PlainOrderKeys}
 use Rattle.static_rules.specs.Views.{NamedTree, NamedTrees}
 use Rattle.static_rules.specs.Laws.{CompilingKeepsNesting}
-use Rattle.static_rules.specs.Compiling.{Names, with_slot, with_any, with_params, body_names, past, after_key, after_clause, after_clauses, after_bind, after_binds, compiled, compiled_form, compiled_content, compiled_trees, compiled_operand, compiled_operands, compiled_term, compiled_terms, compiled_factor, compiled_factors, compiled_bind, compiled_binds, compiled_case, compiled_cases, compiled_type_case, compiled_type_cases, compiled_catch, compiled_catches, compiled_pair, compiled_pairs, compiled_step, compiled_steps, compiled_lookup, compiled_clause, compiled_clauses, compiled_group_var, compiled_group_vars, compiled_order_key, compiled_order_keys, compiled_variables, compiled_functions}
+use Rattle.static_rules.specs.Compiling.{Names, with_slot, with_any, body_names, past, after_key, after_clause, after_clauses, after_bind, after_binds, compiled, compiled_form, compiled_content, compiled_trees, compiled_operand, compiled_operands, compiled_term, compiled_terms, compiled_factor, compiled_factors, compiled_bind, compiled_binds, compiled_case, compiled_cases, compiled_type_case, compiled_type_cases, compiled_catch, compiled_catches, compiled_pair, compiled_pairs, compiled_step, compiled_steps, compiled_lookup, compiled_clause, compiled_clauses, compiled_group_var, compiled_group_vars, compiled_order_key, compiled_order_keys}
+use Rattle.static_rules.proofs.KeptDeclarations.{variables-kept, functions-kept}
 
 pub more : {a b : ℕ} → a ≡ b → a + 1 ≡ b + 1
 more e = ap (λ k. k + 1) e
@@ -176,22 +173,9 @@ mutual
   order_keys-nested s n p.no_order_keys = refl
   order_keys-nested s n (p.more_order_keys x xs) = two (order_key-nested s n x) (order_keys-nested s (past n (Binders.order_key_binders x)) xs)
 
-variables-nested : (names : List (List ℕ × Slot)) (number : ℕ) (xs : List (PlainVariable (List ℕ) (List ℕ) TypeName)) → map variable_nesting (compiled_variables names number xs) ≡ map variable_nesting xs
-variables-nested names number [] = refl
-variables-nested names number (x ∷ xs) =
-    let rest = variables-nested ((x.variable.name, Global number) ∷ names) (number + 1) xs in
-    ap (λ k. k ∷ map variable_nesting (compiled_variables ((x.variable.name, Global number) ∷ names) (number + 1) xs)) (tree-nested (record { variables = names; functions = [] }) 0 x.value)
-    ∙ ap (λ ks. variable_nesting x ∷ ks) rest
-
-functions-nested : (s : Names) (number : ℕ) (fs : List (PlainFunction (List ℕ) (List ℕ) TypeName)) → map function_nesting (compiled_functions s number fs) ≡ map function_nesting fs
-functions-nested s number [] = refl
-functions-nested s number (f ∷ fs) =
-    ap (λ k. k ∷ map function_nesting (compiled_functions s (number + 1) fs)) (tree-nested (with_params s 0 f.params) (length f.params) f.body)
-    ∙ ap (λ ks. function_nesting f ∷ ks) (functions-nested s (number + 1) fs)
-
 pub keeps_nesting : CompilingKeepsNesting
 keeps_nesting = record {
-  variables = λ q. variables-nested [] 0 q.variables;
-  functions = λ q. functions-nested (body_names q) 0 q.functions;
+  variables = λ q. variables-kept nests.nesting nests.nesting tree-nested [] 0 q.variables;
+  functions = λ q. functions-kept nests.nesting nests.nesting tree-nested (body_names q) 0 q.functions;
   body = λ q. tree-nested (body_names q) 0 q.body;
 }

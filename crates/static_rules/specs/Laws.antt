@@ -16,11 +16,21 @@ pub record CompilingKeepsNesting : Type 0 where
       → map function_nesting (compiled_query q).functions ≡ map function_nesting q.functions
   pub body : (q : NamedQuery) → nesting (compiled_query q).body ≡ nesting q.body
 
--- the body of the compiled tree has a spine as long as that of the query, and operands of commas on
--- it that are commas only where the query has them
+-- each of them has a spine as long as that of the query, and operands of commas on it that are
+-- commas only where the query has them
 pub record CompilingKeepsSpines : Type 0 where
-  pub spines : (q : NamedQuery) → spine (compiled_query q).body ≡ spine q.body
-  pub commas : (q : NamedQuery) → commas_apart (compiled_query q).body ≡ commas_apart q.body
+  pub variables : (q : NamedQuery)
+      → map (λ x. spine x.value) (compiled_query q).variables ≡ map (λ x. spine x.value) q.variables
+  pub functions : (q : NamedQuery)
+      → map (λ f. spine f.body) (compiled_query q).functions ≡ map (λ f. spine f.body) q.functions
+  pub body : (q : NamedQuery) → spine (compiled_query q).body ≡ spine q.body
+  pub variables_apart : (q : NamedQuery)
+      → map (λ x. commas_apart x.value) (compiled_query q).variables
+      ≡ map (λ x. commas_apart x.value) q.variables
+  pub functions_apart : (q : NamedQuery)
+      → map (λ f. commas_apart f.body) (compiled_query q).functions
+      ≡ map (λ f. commas_apart f.body) q.functions
+  pub body_apart : (q : NamedQuery) → commas_apart (compiled_query q).body ≡ commas_apart q.body
 
 -- so many numbers from this one on
 unfoldable pub count_from : ℕ → ℕ → List ℕ

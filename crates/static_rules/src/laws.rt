@@ -21,8 +21,8 @@ pub fn compiling_keeps_nesting()
     ensures { CompilingKeepsNesting }
 {}
 
-/// The body of a compiled tree has the spine of the query's, and operands of commas on it that are
-/// commas only where the query has them.
+/// Each declaration of a compiled tree, and its body, has a spine as long as that of the query, and
+/// operands of commas on it that are commas only where the query has them.
 pub fn compiling_keeps_spines()
     ensures { CompilingKeepsSpines }
 {}
