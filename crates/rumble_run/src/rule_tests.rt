@@ -364,7 +364,7 @@ fn finds_items(rt: HostRuntime) -> Result<(), Fail> {
     accepts(&rt, rt.alloc(), &cases)
 }
 
-// Inputs that are not named by one string that is spelled out.
+// Inputs that are not named by strings that are spelled out.
 #[test]
 fn refuses_unnamed_inputs(rt: HostRuntime) -> Result<(), Fail> {
     let cases: [(&str, &str); 7] = [
