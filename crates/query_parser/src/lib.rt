@@ -13,4 +13,6 @@ mod values;
 pub use reading::{ParseFault, parse, parse_at};
 
 #[cfg(test)]
+mod printed;
+#[cfg(test)]
 mod tests;

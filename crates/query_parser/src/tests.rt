@@ -1,28 +1,48 @@
-use crate::{ParseFault, parse};
+use crate::printed::text_of;
+use crate::{ParseFault, parse, parse_at};
+use expression_parser::gather::discard;
 use query_lexer::tokens;
-use query_tree::discard;
 use std::alloc::Global;
 use std::test::Fail;
 
-/// That the text is a query, or the code and the place of its refusal.
+/// The code and the place of a refusal.
+fn fault_text(alloc: Global, fault: ParseFault) -> Result<String, Fail> {
+    match fault {
+        ParseFault::Refused { code, place } => {
+            let code = code.text();
+            Ok(format!(in alloc; "{code} {place}")?)
+        }
+        ParseFault::NoMemory => Ok(String::from_str(alloc, "no memory")?),
+    }
+}
+
+/// That the text is a query, or why it is none.
 fn shown(alloc: Global, text: &str) -> Result<String, Fail> {
-    let mut out = String::new(alloc);
     let Ok(found) = tokens(alloc, text) else {
-        out.push_str("no tokens")?;
-        return Ok(out);
+        return Err(Fail::from("no tokens"));
     };
     match parse(alloc, text, &found) {
         Ok(query) => {
             discard(query);
-            out.push_str("query")?;
+            Ok(String::from_str(alloc, "query")?)
         }
-        Err(ParseFault::Refused { code, place }) => {
-            let code = code.text();
-            out.push_str(&format!(in alloc; "{code} {place}")?)?;
-        }
-        Err(ParseFault::NoMemory) => out.push_str("no memory")?,
+        Err(fault) => fault_text(alloc, fault),
     }
-    Ok(out)
+}
+
+/// The trees of a text behind `start` other bytes, or why it is no query.
+fn tree(alloc: Global, text: &str, start: u32) -> Result<String, Fail> {
+    let Ok(found) = tokens(alloc, text) else {
+        return Err(Fail::from("no tokens"));
+    };
+    match parse_at(alloc, text, &found, start) {
+        Ok(query) => {
+            let shown = text_of(alloc, &query);
+            discard(query);
+            shown
+        }
+        Err(fault) => fault_text(alloc, fault),
+    }
 }
 
 /// A text inside so many parentheses that open, and so many that close.
@@ -318,9 +338,38 @@ fn forms_nest_to_the_bound(rt: HostRuntime) -> Result<(), Fail> {
         (100, "$x.a", 100, "query"),
         (100, "$x.(", 100, "PJST0003 103"),
         (100, "{", 0, "PJST0003 100"),
+        (100, "{|", 0, "PJST0003 100"),
+        (100, "[", 0, "PJST0003 100"),
         (100, "f", 0, "PJST0003 100"),
         (100, "if", 0, "PJST0003 100"),
         (100, "for", 0, "PJST0003 100"),
+        (100, "let", 0, "PJST0003 100"),
+        (100, "some", 0, "PJST0003 100"),
+        (100, "every", 0, "PJST0003 100"),
+        (100, "switch", 0, "PJST0003 100"),
+        (100, "typeswitch", 0, "PJST0003 100"),
+        (100, "try", 0, "PJST0003 100"),
+        (99, "{| 1 |}", 99, "query"),
+        (99, "[1]", 99, "query"),
+        (99, "f(1)", 99, "query"),
+        (99, "if (1) then 2 else 3", 99, "query"),
+        (99, "for $x in 1 return 2", 99, "query"),
+        (99, "some $x in 1 satisfies 2", 99, "query"),
+        (
+            99,
+            "switch (1) case 2 return 3 default return 4",
+            99,
+            "query",
+        ),
+        (
+            99,
+            "typeswitch (1) case a return 2 default return 3",
+            99,
+            "query",
+        ),
+        (99, "try { 1 } catch * { 2 }", 99, "query"),
+        (99, "$x[[1]]", 99, "query"),
+        (99, "$x.(1)", 99, "query"),
         (99, "{if : 1}", 99, "query"),
         (99, "{if (", 0, "PJST0003 103"),
         (99, "$x[1][1]", 99, "query"),
@@ -330,6 +379,160 @@ fn forms_nest_to_the_bound(rt: HostRuntime) -> Result<(), Fail> {
     ] {
         let text = nested(rt.alloc(), opens, text, closes)?;
         let shown = shown(rt.alloc(), &text)?;
+        assert_eq!(rt; shown.as_str(), want, "at {text}");
+    }
+    Ok(())
+}
+
+#[test]
+fn operators_make_trees(rt: HostRuntime) -> Result<(), Fail> {
+    for (text, want) in [
+        (
+            "1 or 2 and not 3",
+            "(or@0 (int@0 1 ) @2 (and@5 (int@5 2 ) @7 (not@11 (int@15 3 ) ) ) )",
+        ),
+        (
+            "1 - 2 - 3",
+            "(sum@0 (int@0 1 ) -@2 (int@4 2 ) -@6 (int@8 3 ) )",
+        ),
+        (
+            "1 div 2 idiv 3",
+            "(product@0 (int@0 1 ) div@2 (int@6 2 ) idiv@8 (int@13 3 ) )",
+        ),
+        (
+            "1 * 2 + 3 mod 4",
+            "(sum@0 (product@0 (int@0 1 ) *@2 (int@4 2 ) ) +@6 (product@8 (int@8 3 ) mod@10 (int@14 4 ) ) )",
+        ),
+        ("-1 + 2", "(sum@0 (sign@0 -@0 (int@1 1 ) ) +@3 (int@5 2 ) )"),
+        (
+            "1 to 2 + 3",
+            "(range@0 (int@0 1 ) to@2 (sum@5 (int@5 2 ) +@7 (int@9 3 ) ) )",
+        ),
+        (
+            "1 || 2 eq 3",
+            "(compare@0 (concat@0 (int@0 1 ) @2 (int@5 2 ) ) eq@7 (int@10 3 ) )",
+        ),
+        (
+            "1 < 2, 1 >= 2",
+            "(comma@0 (compare@0 (int@0 1 ) <@2 (int@4 2 ) ) @5 (compare@7 (int@7 1 ) >=@9 (int@12 2 ) ) )",
+        ),
+        (
+            "$x instance of integer+",
+            "(instance@0 (var@0 x ) @3 integer@15+ )",
+        ),
+        (
+            "1 cast as a castable as b? treat as c()",
+            "(treat@0 (castable@0 (cast@0 (int@0 1 ) @2 a@10 ) @12 b@24? ) @27 c@36() )",
+        ),
+        (
+            "$a.b[1].c ! $$",
+            "(map@0 (postfix@0 (var@0 a ) .@2 b [.]@4 (int@5 1 ) .@7 c ) @10 (context@12 ) )",
+        ),
+        (
+            "$a[[1]][].$b.\"c\".(1)",
+            "(postfix@0 (var@0 a ) [[]]@2 (int@4 1 ) []@7 .@9 $b@10 .@12 'c' .@16 (int@18 1 ) )",
+        ),
+    ] {
+        let shown = tree(rt.alloc(), text, 0)?;
+        assert_eq!(rt; shown.as_str(), want, "at {text}");
+    }
+    Ok(())
+}
+
+#[test]
+fn primaries_make_trees(rt: HostRuntime) -> Result<(), Fail> {
+    for (text, want) in [
+        (
+            "(true, null, ())",
+            "(paren@0 (comma@1 (true@1 ) @5 (null@7 ) @11 (paren@13 ) ) )",
+        ),
+        (
+            "{a : 1, \"b\" : 1.5}",
+            "(object@0 a :@3 (int@5 1 ) (text@8 'b' ) :@12 (dec@14 1500000 ) )",
+        ),
+        (
+            "[{| $x |}, []]",
+            "(array@0 (comma@1 (merge@1 (var@4 x ) ) @9 (array@11 ) ) )",
+        ),
+        ("f(1, g())", "(call@0 f (int@2 1 ) (call@5 g ) )"),
+    ] {
+        let shown = tree(rt.alloc(), text, 0)?;
+        assert_eq!(rt; shown.as_str(), want, "at {text}");
+    }
+    Ok(())
+}
+
+#[test]
+fn statements_make_trees(rt: HostRuntime) -> Result<(), Fail> {
+    for (text, want) in [
+        (
+            "if (1) then 2 else 3",
+            "(if@0 (int@4 1 ) (int@12 2 ) (int@19 3 ) )",
+        ),
+        (
+            "try {1} catch a | b {2} catch * {3}",
+            "(try@0 (int@5 1 ) $err:code@8 a b (int@21 2 ) $err:code@24 * (int@33 3 ) )",
+        ),
+        (
+            "switch (1) case 2 case 3 return 4 default return 5",
+            "(switch@0 (int@8 1 ) case (int@16 2 ) (int@23 3 ) return (int@32 4 ) default (int@49 5 ) )",
+        ),
+        (
+            "typeswitch (1) case $x as a | b return 2 default $y return 3",
+            "(typeswitch@0 (int@12 1 ) case $x@20 a@26 b@30 return (int@39 2 ) default $y@49 return (int@59 3 ) )",
+        ),
+        (
+            "some $x as a in 1, $y in 2 satisfies 3",
+            "(some@0 $x@5 as a@11 (int@16 1 ) $y@19 (int@25 2 ) satisfies (int@37 3 ) )",
+        ),
+        (
+            "every $x in 1 satisfies 2",
+            "(every@0 $x@6 (int@12 1 ) satisfies (int@24 2 ) )",
+        ),
+        (
+            "for $x as a allowing empty at $i in 1, $y in 2 let $z := 3 where 4 return 5",
+            "(flwor@0 for $x@4 as a@10 allowing at $i@30 (int@36 1 ) for $y@39 (int@45 2 ) let $z@51 (int@57 3 ) where@59 (int@65 4 ) return@67 (int@74 5 ) )",
+        ),
+        (
+            "let $x := 1 group by $g, $h := 2 stable order by 3 descending empty greatest, 4 count $c return 5",
+            "(flwor@0 let $x@4 (int@10 1 ) group@12 $g@21 $h@25 := (int@31 2 ) order@33 stable (int@49 3 ) descending greatest (int@78 4 ) count@80 $c@86 return@89 (int@96 5 ) )",
+        ),
+    ] {
+        let shown = tree(rt.alloc(), text, 0)?;
+        assert_eq!(rt; shown.as_str(), want, "at {text}");
+    }
+    Ok(())
+}
+
+#[test]
+fn declarations_make_trees(rt: HostRuntime) -> Result<(), Fail> {
+    for (text, want) in [
+        (
+            "declare variable $x := 1; $x",
+            "variable $x@17 (int@23 1 ) (var@26 x )",
+        ),
+        (
+            "declare function f($a, $b as t*) as u { 2 }; declare function g() { 3 }; 4",
+            "function f @17 $a@19 $b@23 as t@29* as u@36 (int@40 2 ) function g @62 (int@68 3 ) (int@73 4 )",
+        ),
+    ] {
+        let shown = tree(rt.alloc(), text, 0)?;
+        assert_eq!(rt; shown.as_str(), want, "at {text}");
+    }
+    Ok(())
+}
+
+#[test]
+fn texts_begin_anywhere(rt: HostRuntime) -> Result<(), Fail> {
+    for (start, text, want) in [
+        (0, "1 - $x", "(sum@0 (int@0 1 ) -@2 (var@4 x ) )"),
+        (10, "1 - $x", "(sum@10 (int@10 1 ) -@12 (var@14 x ) )"),
+        (10, "1 2", "XPST0003 12"),
+        (10, "1 -", "XPST0003 13"),
+        (4294967292, "1 -", "XPST0003 4294967295"),
+        (4294967293, "1 -", "no memory"),
+    ] {
+        let shown = tree(rt.alloc(), text, start)?;
         assert_eq!(rt; shown.as_str(), want, "at {text}");
     }
     Ok(())
