@@ -352,7 +352,7 @@ fn order_keys<'q>(out: &mut Pieces<'q>, keys: &'q [OrderKey<NamedExpr>]) -> Resu
     Ok(())
 }
 
-fn clause<'q>(out: &mut Pieces<'q>, clause: &'q Part) -> Result<(), Fail> {
+fn binding_clause<'q>(out: &mut Pieces<'q>, clause: &'q Part) -> Result<(), Fail> {
     match clause {
         Clause::For {
             variable,
@@ -380,6 +380,13 @@ fn clause<'q>(out: &mut Pieces<'q>, clause: &'q Part) -> Result<(), Fail> {
             some_type(out, of)?;
             out.push(Piece::Tree(value))?;
         }
+        _ => {}
+    }
+    Ok(())
+}
+
+fn clause<'q>(out: &mut Pieces<'q>, clause: &'q Part) -> Result<(), Fail> {
+    match clause {
         Clause::Keep { place, test } => {
             out.push(Piece::At("where", *place))?;
             out.push(Piece::Tree(test))?;
@@ -403,6 +410,7 @@ fn clause<'q>(out: &mut Pieces<'q>, clause: &'q Part) -> Result<(), Fail> {
             out.push(Piece::At("count", *place))?;
             out.push(Piece::Variable(variable))?;
         }
+        _ => return binding_clause(out, clause),
     }
     Ok(())
 }
@@ -419,6 +427,36 @@ fn content<'q>(out: &mut Pieces<'q>, content: &'q Option<Box<NamedExpr>>) -> Res
         out.push(Piece::Tree(tree))?;
     }
     Ok(())
+}
+
+/// What a node of arithmetic, of signs or of steps holds.
+fn arithmetic_parts<'q>(out: &mut Pieces<'q>, form: &'q Form) -> Result<(), Fail> {
+    match form {
+        Kind::Sum { first, rest } => {
+            out.push(Piece::Tree(first))?;
+            terms(out, rest)
+        }
+        Kind::Product { first, rest } => {
+            out.push(Piece::Tree(first))?;
+            factors(out, rest)
+        }
+        Kind::Sign {
+            signs: marks,
+            operand,
+        } => {
+            signs(out, marks)?;
+            out.push(Piece::Tree(operand))?;
+            Ok(())
+        }
+        Kind::Postfix {
+            primary,
+            steps: rest,
+        } => {
+            out.push(Piece::Tree(primary))?;
+            steps(out, rest)
+        }
+        _ => Ok(()),
+    }
 }
 
 /// What a node that stands for an operator holds.
@@ -440,35 +478,51 @@ fn operator_parts<'q>(out: &mut Pieces<'q>, form: &'q Form) -> Result<(), Fail> 
             right,
         } => two(out, left, compare_word(*op), *place, right),
         Kind::Range { left, place, right } => two(out, left, "to", *place, right),
-        Kind::Sum { first, rest } => {
-            out.push(Piece::Tree(first))?;
-            terms(out, rest)
-        }
-        Kind::Product { first, rest } => {
-            out.push(Piece::Tree(first))?;
-            factors(out, rest)
-        }
         Kind::Instance { operand, place, of } => typed(out, operand, *place, of),
         Kind::Treat { operand, place, to }
         | Kind::Castable { operand, place, to }
         | Kind::Cast { operand, place, to } => typed(out, operand, *place, to),
-        Kind::Sign {
-            signs: marks,
-            operand,
-        } => {
-            signs(out, marks)?;
-            out.push(Piece::Tree(operand))?;
-            Ok(())
-        }
-        Kind::Postfix {
-            primary,
-            steps: rest,
-        } => {
-            out.push(Piece::Tree(primary))?;
-            steps(out, rest)
-        }
-        _ => Ok(()),
+        _ => arithmetic_parts(out, form),
     }
+}
+
+/// What a node that chooses among expressions holds.
+fn choice_parts<'q>(out: &mut Pieces<'q>, form: &'q Form) -> Result<(), Fail> {
+    match form {
+        Kind::Switch {
+            operand,
+            cases: inner,
+            default,
+        } => {
+            out.push(Piece::Tree(operand))?;
+            cases(out, inner)?;
+            out.push(Piece::Word("default"))?;
+            out.push(Piece::Tree(default))?;
+        }
+        Kind::Typeswitch {
+            operand,
+            cases: inner,
+            variable,
+            default,
+        } => {
+            out.push(Piece::Tree(operand))?;
+            type_cases(out, inner)?;
+            some_variable(out, "default", variable)?;
+            out.push(Piece::Word("return"))?;
+            out.push(Piece::Tree(default))?;
+        }
+        Kind::If {
+            condition,
+            when_true,
+            when_false,
+        } => {
+            out.push(Piece::Tree(condition))?;
+            out.push(Piece::Tree(when_true))?;
+            out.push(Piece::Tree(when_false))?;
+        }
+        _ => return operator_parts(out, form),
+    }
+    Ok(())
 }
 
 /// What a node that stands for a statement holds.
@@ -494,40 +548,6 @@ fn statement_parts<'q>(out: &mut Pieces<'q>, form: &'q Form) -> Result<(), Fail>
             out.push(Piece::Tree(test))?;
             Ok(())
         }
-        Kind::Switch {
-            operand,
-            cases: inner,
-            default,
-        } => {
-            out.push(Piece::Tree(operand))?;
-            cases(out, inner)?;
-            out.push(Piece::Word("default"))?;
-            out.push(Piece::Tree(default))?;
-            Ok(())
-        }
-        Kind::Typeswitch {
-            operand,
-            cases: inner,
-            variable,
-            default,
-        } => {
-            out.push(Piece::Tree(operand))?;
-            type_cases(out, inner)?;
-            some_variable(out, "default", variable)?;
-            out.push(Piece::Word("return"))?;
-            out.push(Piece::Tree(default))?;
-            Ok(())
-        }
-        Kind::If {
-            condition,
-            when_true,
-            when_false,
-        } => {
-            out.push(Piece::Tree(condition))?;
-            out.push(Piece::Tree(when_true))?;
-            out.push(Piece::Tree(when_false))?;
-            Ok(())
-        }
         Kind::Try {
             body,
             catches: inner,
@@ -535,7 +555,7 @@ fn statement_parts<'q>(out: &mut Pieces<'q>, form: &'q Form) -> Result<(), Fail>
             out.push(Piece::Tree(body))?;
             catches(out, inner)
         }
-        _ => operator_parts(out, form),
+        _ => choice_parts(out, form),
     }
 }
 

@@ -349,6 +349,21 @@ fn forms_nest_to_the_bound(rt: HostRuntime) -> Result<(), Fail> {
         (100, "switch", 0, "PJST0003 100"),
         (100, "typeswitch", 0, "PJST0003 100"),
         (100, "try", 0, "PJST0003 100"),
+        (99, "{if (", 0, "PJST0003 103"),
+        (99, "$x[(1)]", 0, "PJST0003 102"),
+        (101, "1e0", 0, "PJST0003 100"),
+        (99, "$x[1e0]", 0, "PJST0001 102"),
+    ] {
+        let text = nested(rt.alloc(), opens, text, closes)?;
+        let shown = shown(rt.alloc(), &text)?;
+        assert_eq!(rt; shown.as_str(), want, "at {text}");
+    }
+    Ok(())
+}
+
+#[test]
+fn each_form_stands_below_the_bound(rt: HostRuntime) -> Result<(), Fail> {
+    for (opens, text, closes, want) in [
         (99, "{| 1 |}", 99, "query"),
         (99, "[1]", 99, "query"),
         (99, "f(1)", 99, "query"),
@@ -371,11 +386,7 @@ fn forms_nest_to_the_bound(rt: HostRuntime) -> Result<(), Fail> {
         (99, "$x[[1]]", 99, "query"),
         (99, "$x.(1)", 99, "query"),
         (99, "{if : 1}", 99, "query"),
-        (99, "{if (", 0, "PJST0003 103"),
         (99, "$x[1][1]", 99, "query"),
-        (99, "$x[(1)]", 0, "PJST0003 102"),
-        (101, "1e0", 0, "PJST0003 100"),
-        (99, "$x[1e0]", 0, "PJST0001 102"),
     ] {
         let text = nested(rt.alloc(), opens, text, closes)?;
         let shown = shown(rt.alloc(), &text)?;
@@ -416,6 +427,16 @@ fn operators_make_trees(rt: HostRuntime) -> Result<(), Fail> {
             "1 < 2, 1 >= 2",
             "(comma@0 (compare@0 (int@0 1 ) <@2 (int@4 2 ) ) @5 (compare@7 (int@7 1 ) >=@9 (int@12 2 ) ) )",
         ),
+    ] {
+        let shown = tree(rt.alloc(), text, 0)?;
+        assert_eq!(rt; shown.as_str(), want, "at {text}");
+    }
+    Ok(())
+}
+
+#[test]
+fn types_and_steps_make_trees(rt: HostRuntime) -> Result<(), Fail> {
+    for (text, want) in [
         (
             "$x instance of integer+",
             "(instance@0 (var@0 x ) @3 integer@15+ )",
