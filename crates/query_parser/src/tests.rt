@@ -1,7 +1,7 @@
 use crate::printed::text_of;
 use crate::{ParseFault, parse, parse_at};
-use expression_parser::gather::discard;
 use query_lexer::tokens;
+use query_tree::discard;
 use std::alloc::Global;
 use std::test::Fail;
 
