@@ -17,7 +17,7 @@ use Rattle.query_tree.specs.Plain.{PlainBind, PlainBinds, PlainClause, PlainClau
 use Rattle.query_tree.specs.Scopes.{Locals, these, below, Scope, has_local, may_read, may_bind, may_bind_any, and_local, with_slot, with_any, may_call}
 use Rattle.query_tree.specs.Bound.{after_key, after_keys, after_clause, after_clauses, after_bind, after_binds}
 use Rattle.query_tree.specs.Binders.{any_name, params_binders, binders, bind_binders, binds_binders, clause_binders, clauses_binders, group_var_binders, group_vars_binders}
-use Rattle.query_tree.specs.Bindings.{own_number, numbers_of}
+use Rattle.query_tree.specs.Bindings.{numbers_of}
 use Rattle.query_tree.specs.Compiled.{after_params, params_bound}
 use Rattle.query_tree.proofs.SlotNumbers.{numbers-append}
 

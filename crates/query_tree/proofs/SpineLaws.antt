@@ -30,7 +30,7 @@ module _ {V F T : Type 0} where
         let parts = and_parts (not (is_comma first) && commas_apart first) (operands_apart rest) h in
         let one = and_parts (not (is_comma first)) (commas_apart first) parts.0 in
         omega (arith, none_of (is_comma first) one.0, tree-spine first one.1, operands-spine rest parts.1)
-    form-spine (p.try_form body catches) h = omega (arith, at_most_one (is_comma body), tree-spine body h)
+    form-spine (p.try_form body _) h = omega (arith, at_most_one (is_comma body), tree-spine body h)
     form-spine (p.paren_form content) h = omega (arith, content-spine content h)
     form-spine _ h = omega arith
 

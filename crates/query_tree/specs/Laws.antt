@@ -1,11 +1,8 @@
 -- Laws of the nesting and of the spine of trees.
-use Rattle.std.specs.Prelude.{◌≡◌, ℕ, ◌+◌, ◌*◌, ◌≤◌, max, true, List, [], ◌∷◌, ◌++◌, Option, Some, None, map}
-use Rattle.std.specs.declared.alloc.Global.{Global}
-use Rattle.std.specs.declared.boxed.Box.{Box}
+use Rattle.std.specs.Prelude.{◌≡◌, ℕ, ◌+◌, ◌*◌, ◌≤◌, max, true, List, [], ◌∷◌, ◌++◌, Option}
 use Rattle.query_tree.specs.declared.names.Placed.{Placed}
 use Rattle.query_tree.specs.declared.names.TypeName.{TypeName}
 use Rattle.query_tree.specs.declared.operator.Quantifier.{Quantifier}
-use Rattle.query_tree.specs.declared.operator.SumOp.{SumOp}
 use Rattle.query_tree.specs.Plain as p
 use Rattle.query_tree.specs.Plain.{PlainClause, PlainClauses, PlainGroupVar, PlainGroupVars, PlainOrderKey, PlainOrderKeys, PlainBind, PlainCase, PlainTypeCase, PlainCatch, PlainPair, PlainStep, PlainTerm, MaybeTree, Trees}
 use Rattle.query_tree.specs.Bound.{BoundTree}

@@ -12,7 +12,7 @@ abbrev mutual
 
   pub form_spine : {V F T : Type 0} → Form V F T → ℕ
   form_spine (p.comma_form first rest) = max (spine first) (operands_spine rest) + 1
-  form_spine (p.try_form body catches) = spine body + 1
+  form_spine (p.try_form body _) = spine body + 1
   form_spine (p.paren_form content) = content_spine content + 1
   form_spine _ = 0
 
@@ -42,7 +42,7 @@ abbrev mutual
   pub form_apart : {V F T : Type 0} → Form V F T → Bool
   form_apart (p.comma_form first rest) =
       not (is_comma first) && commas_apart first && operands_apart rest
-  form_apart (p.try_form body catches) = commas_apart body
+  form_apart (p.try_form body _) = commas_apart body
   form_apart (p.paren_form content) = content_apart content
   form_apart _ = true
 

@@ -20,7 +20,7 @@ mutual
 
   form-spine : (s : Names) (n : ℕ) (x : Form (List ℕ) (List ℕ) TypeName) → form_spine (compiled_form s n x) ≡ form_spine x
   form-spine s n (p.comma_form first rest) = more (two (tree-spine s n first) (operands-spine s (past n (Binders.binders first)) rest))
-  form-spine s n (p.try_form body catches) = more (tree-spine s n body)
+  form-spine s n (p.try_form body _) = more (tree-spine s n body)
   form-spine s n (p.paren_form content) = more (content-spine s n content)
   form-spine s n _ = refl
 
@@ -48,7 +48,7 @@ mutual
 
   form-apart : (s : Names) (n : ℕ) (x : Form (List ℕ) (List ℕ) TypeName) → form_apart (compiled_form s n x) ≡ form_apart x
   form-apart s n (p.comma_form first rest) = both (both (no-comma s n first) (tree-apart s n first)) (operands-apart s (past n (Binders.binders first)) rest)
-  form-apart s n (p.try_form body catches) = tree-apart s n body
+  form-apart s n (p.try_form body _) = tree-apart s n body
   form-apart s n (p.paren_form content) = content-apart s n content
   form-apart s n _ = refl
 
