@@ -1,5 +1,5 @@
 -- A command line has one answer, and opens one list of files.
-use Rattle.std.proofs.Common.{◌≡◌, ℕ, List, [], ◌∷◌, ◌++◌, length, ◌+◌, suc, cond, arith, Option, None, Some, Result, Ok, Err, refl, sym, ap, ◌∙◌, subst, codes}
+use Rattle.std.proofs.Common.{◌≡◌, ℕ, List, [], ◌∷◌, ◌++◌, length, suc, cond, arith, Option, None, Some, Result, Ok, Err, refl, sym, ap, ◌∙◌, subst, codes}
 use Rattle.std.specs.Prelude.{IfSome, is_some}
 use Rattle.std.specs.Str.{encode_utf8_all}
 use Rattle.item_reader.specs.Lines.{without_mark}

@@ -1,5 +1,5 @@
 -- How many files are opened, name by name.
-use Rattle.std.proofs.Common.{◌≡◌, ◌≤◌, ◌<◌, ◌+◌, ◌-◌, ◌^◌, ℕ, suc, List, [], ◌∷◌, ◌++◌, length, take, drop, Option, None, Some, Bool, true, false, cond, Result, Ok, Err, map, option_map, get_or, refl, sym, ap, ◌∙◌, subst, arith}
+use Rattle.std.proofs.Common.{◌≡◌, ◌<◌, ◌+◌, ℕ, suc, List, [], ◌∷◌, ◌++◌, length, take, drop, Option, None, Some, Bool, true, false, cond, Ok, map, option_map, get_or, refl, sym, ap, ◌∙◌, subst, arith}
 use Rattle.std.specs.Prelude.{IfSome, is_some, filter, unwrap_or}
 use Rattle.std.proofs.lemmas.List.Quantifiers.{position-Some}
 use Rattle.std.proofs.lemmas.Option.{slice_get-map, slice_get-get_or, slice_get_read}
@@ -15,7 +15,7 @@ use Rattle.rumble_run.specs.Opens.{is_among, new_names, files_among}
 use Rattle.query_meaning.specs.inside.Computed.{read_of}
 use Rattle.rumble_run.specs.inside.Held.{read_held, files_of_next}
 use Rattle.rumble_run.specs.declared.inputs.Held.{Held}
-use Rattle.rumble_run.specs.inside.Reads.{Leaves, files_of_name}
+use Rattle.rumble_run.specs.inside.Reads.{Leaves}
 
 -- what holds of a told world, from what holds of it
 pub told_from : {P Q : World → Type 0} (world : Option World) → ((w : World) → P w → Q w) → IfSome world P → IfSome world Q

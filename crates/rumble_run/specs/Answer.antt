@@ -1,6 +1,6 @@
 -- The answer to a command line over a world of inputs: a status, with the bytes for the output
 -- and for the errors.
-use Rattle.std.specs.Prelude.{◌≡◌, ℕ, List, [], ◌∷◌, ◌++◌, Option, None, Some, IfSome, Result, Ok, Err, codes}
+use Rattle.std.specs.Prelude.{◌≡◌, ℕ, List, [], ◌∷◌, ◌++◌, Option, None, Some, IfSome, Ok, Err, codes}
 use Rattle.std.specs.Fmt.{decimal}
 use Rattle.std.specs.Str.{encode_utf8_all}
 use Rattle.item_tree.specs.declared.code.Code.TheVariants.{PJST0099}

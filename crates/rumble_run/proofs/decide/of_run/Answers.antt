@@ -1,7 +1,3 @@
-use Rattle.item_tree.specs.declared.code.Code.TheVariants.{PJST0099}
-use Rattle.item_tree.specs.Faults.{fault_at}
-use Rattle.std.proofs.Common.{◌∙◌, ap}
-use Rattle.rumble_run.specs.Answer.{refused}
 use Rattle.rumble_run.proofs.Endings.{of_refusal, of_outcome_is}
 use Rattle.rumble_run.proofs.decide.of_run.Goals as goal
 

@@ -1,6 +1,4 @@
-use Rattle.std.proofs.Common.{◌≡◌, ◌∙◌, ◌++◌, ◌+◌, ◌∷◌, [], map, take, drop, refl, sym, ap, subst, arith, Option}
-use Rattle.std.specs.Prelude.{IfSome}
-use Rattle.outside.specs.World.{World}
+use Rattle.std.proofs.Common.{◌≡◌, ◌∙◌, ◌+◌, map, take, drop, refl, ap, arith}
 use Rattle.rumble_run.specs.inside.Held.{read_held}
 use Rattle.rumble_run.proofs.Opened.{told_all, told_from_two, opening, opening_at, pushed_read, leaves_then, next_taken, next_dropped}
 use Rattle.rumble_run.proofs.inputs.read_inputs.Goals as goal
