@@ -87,4 +87,6 @@ fn has_laws() {
     laws::one_tree();
     laws::tree_or_refusal();
     laws::one_reading();
+    laws::nesting_is_bounded();
+    laws::commas_stand_apart();
 }
