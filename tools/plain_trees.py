@@ -7,6 +7,8 @@ and the parts, which are over the type `E` of the expressions that they hold. It
 
 - specs/Plain.antt: a plain type for each of them, with a constructor for each variant or struct, and
   the plain value of each tree, made by the generated fold;
+- specs/NamedViews.antt, specs/BoundViews.antt: words for the plain values of trees as they were read,
+  and of compiled trees;
 - proofs/Lists.antt: that the lists in plain trees are lists, there and back;
 - proofs/Folds.antt: what a fold gives at a node that is known;
 - proofs/Layers.antt: the plain value at each variant, and of an `Expr`, in one ruleset `layers`.
@@ -325,6 +327,65 @@ def is_record(fields):
     return not any(k.startswith(("Vec<", "Box<", "Option<")) and "<V,F,T>" in k for _, k in fields)
 
 
+# Views whose usual word stands for something else: a pair with a name as its key, a compiled query.
+VIEWS = {"named_pair": "source_pair", "named_trees": "named_tree_list", "bound_trees": "bound_tree_list"}
+NAMED = {"V": "(List ℕ)", "F": "(List ℕ)", "T": "TypeName"}
+BOUND = {"V": "Slot", "F": "Target", "T": "SeqType"}
+
+
+def write_views(prefix, over, title, imports, modules):
+    """Words for the plain values over these types: of a tree, of each part, of each list of parts."""
+    out = [HEAD + title]
+    out.append("use Rattle.std.specs.Prelude.{ℕ, List, map, Option}")
+    out.append("use Rattle.std.specs.declared.alloc.Global.{Global}")
+    out.append("use Rattle.std.specs.declared.boxed.Box.{Box}")
+    out += imports
+    out += imports_of_declared(["{0}"])
+    out += [f"use Rattle.query_tree.specs.declared.module.{name}.{{{name}}}" for name in modules]
+    out.append("use Rattle.query_tree.specs.Plain as p")
+    plains = [plain(n) for n in ALL] + [list_type(n) for n in LISTS] + ["MaybeTree"]
+    out.append(f"use Rattle.query_tree.specs.Plain.{{{', '.join(plains)}}}")
+    out.append("use Rattle.query_tree.specs.Modules as modules")
+    out.append(f"use Rattle.query_tree.specs.Modules.{{{', '.join('Plain' + name for name in modules)}}}")
+    types = " ".join(over.values())
+    held = f"(Expr {types})"
+
+    def view(word, of, to, argument, value):
+        name = VIEWS.get(f"{prefix}_{word}", f"{prefix}_{word}")
+        out.extend(["", f"abbrev pub {name} : {of} → {to}", f"{' '.join([name] + argument)} = {value}"])
+
+    if prefix == "named":
+        out += ["", "abbrev pub NamedTree : Type 0", f"NamedTree = Tree {types}"]
+        out += ["", "abbrev pub NamedQuery : Type 0", f"NamedQuery = PlainModule {types}"]
+    for name in ["Expr"] + [n for n in ALL if n != "Expr"]:
+        word, of = snake(PLAIN.get(name, name)), f"p.{value_of(name)} {types}"
+        tree_type = " ".join([name] + [over[t] for t in PARTS[name]] + [held]) if name in PARTS else f"{name} {types}"
+        to = f"{prefix.capitalize()}Tree" if name == "Expr" else f"{plain(name)} {types}"
+        view(word, tree_type, to, [], of)
+        if name in LISTS:
+            view(plural(word), f"List ({tree_type})", f"{list_type(name)} {types}", ["xs"], f"p.{list_of(name)} {types} (map ({of}) xs)")
+    view("content", f"Option (Box {held} Global)", f"MaybeTree {types}", [], f"p.maybe_tree_of {types}")
+    for name, word in modules.items():
+        to = "NamedQuery" if name == "Module" else f"Plain{name} {types}"
+        view(word, f"{name} {types}", to, [], f"modules.{snake(name)}_of {types}")
+    file = prefix.capitalize() + "Views.antt"
+    (CRATE / "specs" / file).write_text(broken(without_unused("\n".join(out) + "\n")))
+
+
+def write_named_views():
+    imports = ["use Rattle.query_tree.specs.declared.names.TypeName.{TypeName}"]
+    modules = {"Variable": "variable", "Function": "function", "Module": "query"}
+    write_views("named", NAMED, "-- Trees as they were read, as plain values.", imports, modules)
+
+
+def write_bound_views():
+    imports = [f"use Rattle.query_tree.specs.declared.bound.{name}.{{{name}}}" for name in ["Slot", "Target"]]
+    imports.append("use Rattle.seq_types.specs.declared.types.SeqType.{SeqType}")
+    imports.append("use Rattle.query_tree.specs.Bound.{BoundTree}")
+    modules = {"Variable": "variable", "Function": "function"}
+    write_views("bound", BOUND, "-- Compiled trees as plain values; of a whole query in Compiled.antt.", imports, modules)
+
+
 GENERIC = [f"A{i}" for i in range(len(ORDER))]
 STEPS = [f"step{i}" for i in range(len(ORDER))]
 TREES = " ".join(f"({n} V F T)" for n in ORDER)
@@ -495,6 +556,8 @@ def write_layers():
 
 def main():
     write_plain()
+    write_named_views()
+    write_bound_views()
     write_lists()
     write_folds()
     write_layers()

@@ -1,10 +1,11 @@
 -- What the nesting of a tree counts.
-use Rattle.std.proofs.Common.{◌≡◌, ℕ, max, List, [], ◌∷◌, refl, ap, arith}
+use Rattle.std.proofs.Common.{◌≡◌, ℕ, max, List, [], ◌∷◌, ◌++◌, refl, sym, ap, arith}
 use Rattle.query_tree.specs.declared.names.TypeName.{TypeName}
 use Rattle.query_tree.specs.Plain as p
 use Rattle.query_tree.specs.Plain.{PlainClause, PlainGroupVars, PlainOrderKeys, PlainBind, PlainCase, PlainTypeCase, PlainCatch, PlainPair, PlainTerm, MaybeTree, Trees}
 use Rattle.query_tree.specs.Nesting.{nesting, greatest, clause_nesting, group_vars_nesting, order_keys_nesting, bind_nesting, case_nesting, trees_nesting, type_case_nesting, catch_nesting, pair_nesting, content_nesting, term_nesting}
-use Rattle.query_tree.specs.Laws.{Name, NamedTree, NestingCountsForms, joined, bind_trees, tests_of, case_trees, type_case_trees, catch_trees, pair_trees, content_trees, group_trees, order_trees, clause_trees, term_trees}
+use Rattle.query_tree.specs.NamedViews.{NamedTree}
+use Rattle.query_tree.specs.Laws.{Name, NestingCountsForms, joined, bind_trees, tests_of, case_trees, type_case_trees, catch_trees, pair_trees, content_trees, group_trees, order_trees, clause_trees, term_trees}
 use Rattle.query_tree.proofs.NestingLists.{greatest-append, clauses-nesting, trees-nesting, binds-nesting, cases-nesting, type_cases-nesting, catches-nesting, pairs-nesting, steps-nesting, terms-nesting}
 
 -- the greatest over parts is that over the trees which the parts hold

@@ -5,16 +5,13 @@ use Rattle.query_tree.specs.declared.names.TypeName.{TypeName}
 use Rattle.query_tree.specs.declared.operator.Quantifier.{Quantifier}
 use Rattle.query_tree.specs.Plain as p
 use Rattle.query_tree.specs.Plain.{PlainClause, PlainClauses, PlainGroupVar, PlainGroupVars, PlainOrderKey, PlainOrderKeys, PlainBind, PlainCase, PlainTypeCase, PlainCatch, PlainPair, PlainStep, PlainTerm, MaybeTree, Trees}
+use Rattle.query_tree.specs.NamedViews.{NamedTree}
 use Rattle.query_tree.specs.Bound.{BoundTree}
 use Rattle.query_tree.specs.Nesting.{nesting, greatest, step_nesting}
 use Rattle.query_tree.specs.Spines.{spine, commas_apart}
 
 abbrev pub Name : Type 0
 Name = List ℕ
-
--- the plain value of an expression as it was read
-abbrev pub NamedTree : Type 0
-NamedTree = p.Tree Name Name TypeName
 
 -- ---- the trees that parts hold
 

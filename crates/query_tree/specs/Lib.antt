@@ -1,9 +1,11 @@
 pub mod Binders
 pub mod Bindings
 pub mod Bound
+pub mod BoundViews
 pub mod Compiled
 pub mod Laws
 pub mod Modules
+pub mod NamedViews
 pub mod Nesting
 pub mod Plain
 pub mod Scopes

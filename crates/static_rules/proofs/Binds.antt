@@ -15,7 +15,8 @@ use Rattle.static_rules.specs.Compiling.{past, compiled_binds, compiled_bind, af
 use Rattle.static_rules.specs.Gathering.{Pushed}
 use Rattle.static_rules.specs.Walks.{State, view_of}
 use Rattle.static_rules.specs.Openings.{entered}
-use Rattle.static_rules.specs.Sources.{named_binds, bound_binds, named_bind, bound_bind}
+use Rattle.query_tree.specs.NamedViews.{named_binds, named_bind}
+use Rattle.query_tree.specs.BoundViews.{bound_binds, bound_bind}
 use Rattle.static_rules.specs.Behind.{behind_bind, behind_binds}
 use Rattle.static_rules.proofs.Scoping.{entered-names, entered-number, entered-entered, entered-none}
 

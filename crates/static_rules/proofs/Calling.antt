@@ -21,7 +21,7 @@ use Rattle.static_rules.specs.Rules.{is_lines, is_built_in, are_texts, name_inpu
 use Rattle.static_rules.specs.Compiling.{Names, own_number, function_or_own, target_of}
 use Rattle.static_rules.specs.Stacks.{callee_of}
 use Rattle.static_rules.specs.Calls.{text_in, text_of, and_text, texts_of}
-use Rattle.static_rules.specs.Sources.{named_tree, named_trees, named_form}
+use Rattle.query_tree.specs.NamedViews.{named_tree, named_tree_list, named_form}
 use Rattle.static_rules.specs.Walks.{State, passed, tested}
 use Rattle.static_rules.proofs.Passing.{passed-test}
 
@@ -43,7 +43,7 @@ other-tested s name arguments place e =
     by true b c o h = absurd (cc)
     by false b c o h = refl
 
-pub argument_length : (es : List (Expr (List ℕ) (List ℕ) TypeName)) → argument_count (named_trees es) ≡ length es
+pub argument_length : (es : List (Expr (List ℕ) (List ℕ) TypeName)) → argument_count (named_tree_list es) ≡ length es
 argument_length [] = refl
 argument_length (e ∷ es) = let h = argument_length es in omega arith
 
@@ -72,44 +72,44 @@ has-position p xs = any-below p xs ∙ by (nat_lt (position_or_len p xs) (length
 node-text : (e : Expr (List ℕ) (List ℕ) TypeName) → text_of (named_tree e) ≡ text_in (named_form e.kind)
 node-text e = ap text_of (tree_of-out (List ℕ) (List ℕ) TypeName e)
 
-arguments-at : (es : List (Expr (List ℕ) (List ℕ) TypeName)) (i : ℕ) (x : Expr (List ℕ) (List ℕ) TypeName) → i < length es → x ≡ get_or es i x → named_trees (drop i es) ≡ p.more_trees (named_tree x) (named_trees (drop (i + 1) es))
-arguments-at es i x l e = ap named_trees (drop_more es i x l) ∙ ap (λ y. named_trees (y ∷ drop (i + 1) es)) (sym e)
+arguments-at : (es : List (Expr (List ℕ) (List ℕ) TypeName)) (i : ℕ) (x : Expr (List ℕ) (List ℕ) TypeName) → i < length es → x ≡ get_or es i x → named_tree_list (drop i es) ≡ p.more_trees (named_tree x) (named_tree_list (drop (i + 1) es))
+arguments-at es i x l e = ap named_tree_list (drop_more es i x l) ∙ ap (λ y. named_tree_list (y ∷ drop (i + 1) es)) (sym e)
 
-pub texts-at : (es : List (Expr (List ℕ) (List ℕ) TypeName)) (i : ℕ) (x : Expr (List ℕ) (List ℕ) TypeName) → i < length es → x ≡ get_or es i x → texts_of (named_trees (drop i es)) ≡ and_text (text_in (named_form x.kind)) (texts_of (named_trees (drop (i + 1) es)))
-texts-at es i x l e = ap texts_of (arguments-at es i x l e) ∙ ap (λ t. and_text t (texts_of (named_trees (drop (i + 1) es)))) (node-text x)
+pub texts-at : (es : List (Expr (List ℕ) (List ℕ) TypeName)) (i : ℕ) (x : Expr (List ℕ) (List ℕ) TypeName) → i < length es → x ≡ get_or es i x → texts_of (named_tree_list (drop i es)) ≡ and_text (text_in (named_form x.kind)) (texts_of (named_tree_list (drop (i + 1) es)))
+texts-at es i x l e = ap texts_of (arguments-at es i x l e) ∙ ap (λ t. and_text t (texts_of (named_tree_list (drop (i + 1) es)))) (node-text x)
 
-pub are-texts-at : (es : List (Expr (List ℕ) (List ℕ) TypeName)) (i : ℕ) (x : Expr (List ℕ) (List ℕ) TypeName) → i < length es → x ≡ get_or es i x → are_texts (named_trees (drop i es)) ≡ (is_some (text_in (named_form x.kind)) && are_texts (named_trees (drop (i + 1) es)))
-are-texts-at es i x l e = ap are_texts (arguments-at es i x l e) ∙ ap (λ t. is_some t && are_texts (named_trees (drop (i + 1) es))) (node-text x)
+pub are-texts-at : (es : List (Expr (List ℕ) (List ℕ) TypeName)) (i : ℕ) (x : Expr (List ℕ) (List ℕ) TypeName) → i < length es → x ≡ get_or es i x → are_texts (named_tree_list (drop i es)) ≡ (is_some (text_in (named_form x.kind)) && are_texts (named_tree_list (drop (i + 1) es)))
+are-texts-at es i x l e = ap are_texts (arguments-at es i x l e) ∙ ap (λ t. is_some t && are_texts (named_tree_list (drop (i + 1) es))) (node-text x)
 
 -- a loop over the arguments goes on behind one that is a string, and behind one that is none
-pub texts-more : (es : List (Expr (List ℕ) (List ℕ) TypeName)) (i : ℕ) (x : Expr (List ℕ) (List ℕ) TypeName) (out next : List (List ℕ)) (text : List ℕ) → texts_of (named_trees es) ≡ out ++ texts_of (named_trees (drop i es)) → i < length es → x ≡ get_or es i x → text_in (named_form x.kind) ≡ Some text → next ≡ out ++ text ∷ [] → texts_of (named_trees es) ≡ next ++ texts_of (named_trees (drop (i + 1) es))
+pub texts-more : (es : List (Expr (List ℕ) (List ℕ) TypeName)) (i : ℕ) (x : Expr (List ℕ) (List ℕ) TypeName) (out next : List (List ℕ)) (text : List ℕ) → texts_of (named_tree_list es) ≡ out ++ texts_of (named_tree_list (drop i es)) → i < length es → x ≡ get_or es i x → text_in (named_form x.kind) ≡ Some text → next ≡ out ++ text ∷ [] → texts_of (named_tree_list es) ≡ next ++ texts_of (named_tree_list (drop (i + 1) es))
 texts-more es i x out next text h l e t n =
-    let rest = texts_of (named_trees (drop (i + 1) es)) in
+    let rest = texts_of (named_tree_list (drop (i + 1) es)) in
     h ∙ ap (λ ts. out ++ ts) (texts-at es i x l e) ∙ ap (λ o. out ++ and_text o rest) t
     ∙ sym (append_assoc out (text ∷ []) rest) ∙ ap (λ ts. ts ++ rest) (sym n)
 
-pub texts-same : (es : List (Expr (List ℕ) (List ℕ) TypeName)) (i : ℕ) (x : Expr (List ℕ) (List ℕ) TypeName) (out : List (List ℕ)) → texts_of (named_trees es) ≡ out ++ texts_of (named_trees (drop i es)) → i < length es → x ≡ get_or es i x → text_in (named_form x.kind) ≡ None → texts_of (named_trees es) ≡ out ++ texts_of (named_trees (drop (i + 1) es))
+pub texts-same : (es : List (Expr (List ℕ) (List ℕ) TypeName)) (i : ℕ) (x : Expr (List ℕ) (List ℕ) TypeName) (out : List (List ℕ)) → texts_of (named_tree_list es) ≡ out ++ texts_of (named_tree_list (drop i es)) → i < length es → x ≡ get_or es i x → text_in (named_form x.kind) ≡ None → texts_of (named_tree_list es) ≡ out ++ texts_of (named_tree_list (drop (i + 1) es))
 texts-same es i x out h l e t =
-    h ∙ ap (λ ts. out ++ ts) (texts-at es i x l e) ∙ ap (λ o. out ++ and_text o (texts_of (named_trees (drop (i + 1) es)))) t
+    h ∙ ap (λ ts. out ++ ts) (texts-at es i x l e) ∙ ap (λ o. out ++ and_text o (texts_of (named_tree_list (drop (i + 1) es)))) t
 
-pub are-texts-more : (es : List (Expr (List ℕ) (List ℕ) TypeName)) (i : ℕ) (x : Expr (List ℕ) (List ℕ) TypeName) (b : Bool) → are_texts (named_trees es) ≡ are_texts (named_trees (drop i es)) → i < length es → x ≡ get_or es i x → is_some (text_in (named_form x.kind)) ≡ b → are_texts (named_trees es) ≡ (b && are_texts (named_trees (drop (i + 1) es)))
+pub are-texts-more : (es : List (Expr (List ℕ) (List ℕ) TypeName)) (i : ℕ) (x : Expr (List ℕ) (List ℕ) TypeName) (b : Bool) → are_texts (named_tree_list es) ≡ are_texts (named_tree_list (drop i es)) → i < length es → x ≡ get_or es i x → is_some (text_in (named_form x.kind)) ≡ b → are_texts (named_tree_list es) ≡ (b && are_texts (named_tree_list (drop (i + 1) es)))
 are-texts-more es i x b h l e t =
-    h ∙ are-texts-at es i x l e ∙ ap (λ o. o && are_texts (named_trees (drop (i + 1) es))) t
+    h ∙ are-texts-at es i x l e ∙ ap (λ o. o && are_texts (named_tree_list (drop (i + 1) es))) t
 
 pub some-mapped : {X Y : Type 0} (f : X → Y) (o : Option X) → is_some o ≡ is_some (option_map f o)
 some-mapped f None = refl
 some-mapped f (Some x) = refl
 
-pub target-other : (s : Names) (name : List ℕ) (es : List (Expr (List ℕ) (List ℕ) TypeName)) → is_lines name ≡ false → function_or_own (function_named name (length es)) (own_number s.functions name (length es)) ≡ target_of s name (named_trees es)
+pub target-other : (s : Names) (name : List ℕ) (es : List (Expr (List ℕ) (List ℕ) TypeName)) → is_lines name ≡ false → function_or_own (function_named name (length es)) (own_number s.functions name (length es)) ≡ target_of s name (named_tree_list es)
 target-other s name es e =
     ap (λ n. function_or_own (function_named name n) (own_number s.functions name n)) (sym (argument_length es))
-    ∙ ap (λ b. cond b (Lines (texts_of (named_trees es))) (function_or_own (function_named name (argument_count (named_trees es))) (own_number s.functions name (argument_count (named_trees es))))) (sym e)
+    ∙ ap (λ b. cond b (Lines (texts_of (named_tree_list es))) (function_or_own (function_named name (argument_count (named_tree_list es))) (own_number s.functions name (argument_count (named_tree_list es))))) (sym e)
 
 pub other-known : (s : State) (name : List ℕ) (es : List (Expr (List ℕ) (List ℕ) TypeName)) (place : ℕ) → is_lines name ≡ false
-    → tested s (not (is_built_in name (length es) || has_callee s.names.functions name (length es))) UnknownFunction place ≡ passed s (mention_at place (calls name (named_trees es) s.names.functions) ∷ []) []
+    → tested s (not (is_built_in name (length es) || has_callee s.names.functions name (length es))) UnknownFunction place ≡ passed s (mention_at place (calls name (named_tree_list es) s.names.functions) ∷ []) []
 other-known s name es place e =
     ap (λ n. tested s (not (is_built_in name n || has_callee s.names.functions name n)) UnknownFunction place) (sym (argument_length es))
-    ∙ other-tested s name (named_trees es) place e
+    ∙ other-tested s name (named_tree_list es) place e
 
 pub own-found : (ks : List Known) (cs : List Callee) (name : List ℕ) (arity : ℕ) (own : Option ℕ) → cs ≡ map callee_of ks → own ≡ position (λ k. bytes_eq (callee_of k).name name && (callee_of k).arity == arity) ks → own ≡ position (λ c. bytes_eq c.name name && c.arity == arity) cs
 own-found ks cs name arity own h e = e ∙ sym (known-number ks name arity) ∙ ap (position (λ c. bytes_eq c.name name && c.arity == arity)) (sym h)

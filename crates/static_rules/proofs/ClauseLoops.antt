@@ -16,7 +16,8 @@ use Rattle.static_rules.specs.Compiling.{past, compiled_clauses, compiled_clause
 use Rattle.static_rules.specs.Gathering.{Pushed}
 use Rattle.static_rules.specs.Walks.{State, view_of, bound_names}
 use Rattle.static_rules.specs.Openings.{entered}
-use Rattle.static_rules.specs.Sources.{named_clauses, bound_clauses, named_clause, bound_clause}
+use Rattle.query_tree.specs.NamedViews.{named_clauses, named_clause}
+use Rattle.query_tree.specs.BoundViews.{bound_clauses, bound_clause}
 use Rattle.static_rules.specs.Behind.{stream_of, behind_clause, behind_clauses}
 use Rattle.static_rules.proofs.Streams.{view-clause, stream-clause, longer-clause}
 use Rattle.static_rules.proofs.Scoping.{entered-names, entered-number, entered-entered, entered-none}

@@ -4,7 +4,7 @@ use Rattle.std.specs.List.{list_any, filter, flat_map}
 use Rattle.std.proofs.lemmas.Bool.Decides.{nat_tests}
 use Rattle.std.proofs.lemmas.List.Folds.{list_any-append}
 use Rattle.item_tree.proofs.Members.{both}
-use Rattle.static_rules.specs.Views.{NamedQuery}
+use Rattle.query_tree.specs.NamedViews.{NamedQuery}
 use Rattle.static_rules.specs.Mentions.{MentionAt, query_mentions}
 use Rattle.static_rules.specs.declared.rules.Refusal.{Refusal}
 use Rattle.static_rules.specs.declared.rules.Rule.{Rule}

@@ -4,7 +4,8 @@ use Rattle.query_tree.specs.declared.bound.Slot.TheVariants.{Local}
 use Rattle.query_tree.specs.declared.names.TypeName.{TypeName}
 use Rattle.query_tree.specs.Plain.{PlainClauses}
 use Rattle.static_rules.specs.Views as views
-use Rattle.static_rules.specs.Views.{NamedTree, seeing}
+use Rattle.query_tree.specs.NamedViews.{NamedTree}
+use Rattle.static_rules.specs.Views.{seeing}
 use Rattle.static_rules.specs.Mentions.{MentionAt, mentions, clauses_mentions}
 use Rattle.query_tree.specs.Binders.{binders, clauses_binders}
 use Rattle.static_rules.specs.Compiling.{Names, with_slot, after_clauses}

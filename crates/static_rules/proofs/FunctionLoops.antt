@@ -13,7 +13,9 @@ use Rattle.static_rules.specs.Mentions.{functions_mentions, callee_of}
 use Rattle.static_rules.specs.Compiling.{compiled_functions, function_width, greatest}
 use Rattle.static_rules.specs.Gathering.{Pushed}
 use Rattle.static_rules.specs.Walks.{State, view_of}
-use Rattle.static_rules.specs.Declarations.{named_function, bound_function, function_mentions, compiled_function, with_functions, seeing_functions, earlier_functions, begun, declared, behind_function, behind_functions}
+use Rattle.query_tree.specs.NamedViews.{named_function}
+use Rattle.query_tree.specs.BoundViews.{bound_function}
+use Rattle.static_rules.specs.Declarations.{function_mentions, compiled_function, with_functions, seeing_functions, earlier_functions, begun, declared, behind_function, behind_functions}
 use Rattle.static_rules.proofs.Declaring.{declared-names, declared-number, declared-declared, declared-none, declared-seeing, seeing-names, greatest-more, greatest-none}
 
 earlier-more : (cs tail : List Callee) (i : ℕ) (c : Callee) → drop i cs ≡ c ∷ tail → reverse (take (i + 1) cs) ≡ c ∷ reverse (take i cs)

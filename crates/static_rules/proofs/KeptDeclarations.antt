@@ -5,7 +5,7 @@ use Rattle.query_tree.specs.declared.bound.Slot.TheVariants.{Global}
 use Rattle.query_tree.specs.declared.names.TypeName.{TypeName}
 use Rattle.query_tree.specs.Bound.{BoundTree}
 use Rattle.query_tree.specs.Modules.{PlainVariable, PlainFunction}
-use Rattle.static_rules.specs.Views.{NamedTree}
+use Rattle.query_tree.specs.NamedViews.{NamedTree}
 use Rattle.static_rules.specs.Compiling.{Names, with_params, compiled, compiled_variables, compiled_functions}
 
 module _ {A : Type 0} (of_bound : BoundTree → A) (of_read : NamedTree → A) (kept : (s : Names) (n : ℕ) (x : NamedTree) → of_bound (compiled s n x) ≡ of_read x) where

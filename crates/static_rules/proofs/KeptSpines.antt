@@ -5,7 +5,7 @@ use Rattle.query_tree.specs.Binders
 use Rattle.query_tree.specs.Plain as p
 use Rattle.query_tree.specs.Plain.{Form, MaybeTree, PlainOperand, PlainOperands}
 use Rattle.query_tree.specs.Spines.{spine, form_spine, content_spine, operand_spine, operands_spine, is_comma, is_comma_form, commas_apart, form_apart, content_apart, operand_apart, operands_apart}
-use Rattle.static_rules.specs.Views.{NamedTree}
+use Rattle.query_tree.specs.NamedViews.{NamedTree}
 use Rattle.static_rules.specs.Laws.{CompilingKeepsSpines}
 use Rattle.static_rules.proofs.KeptDeclarations.{variables-kept, functions-kept}
 use Rattle.static_rules.proofs.Nestings.{more, two}

@@ -17,7 +17,8 @@ use Rattle.static_rules.specs.Compiling.{Names, past, compiled_group_vars, compi
 use Rattle.static_rules.specs.Gathering.{Pushed}
 use Rattle.static_rules.specs.Walks.{State, view_of, bound_names}
 use Rattle.static_rules.specs.Openings.{entered}
-use Rattle.static_rules.specs.Sources.{named_group_vars, bound_group_vars, named_group_var, bound_group_var}
+use Rattle.query_tree.specs.NamedViews.{named_group_vars, named_group_var}
+use Rattle.query_tree.specs.BoundViews.{bound_group_vars, bound_group_var}
 use Rattle.static_rules.specs.Behind.{stream_of, below, behind_key, behind_keys}
 use Rattle.static_rules.proofs.Scoping.{entered-names, entered-number, entered-entered, entered-none}
 use Rattle.static_rules.proofs.Streams.{below-key, longer-key}

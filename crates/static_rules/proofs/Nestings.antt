@@ -6,7 +6,8 @@ use Rattle.query_tree.specs.Binders
 use Rattle.query_tree.specs.Nesting as nests
 use Rattle.query_tree.specs.Plain as p
 use Rattle.query_tree.specs.Plain.{Form, MaybeTree, PlainOperand, PlainOperands, PlainTerm, PlainTerms, PlainFactor, PlainFactors, PlainBind, PlainBinds, PlainCase, PlainCases, PlainTypeCase, PlainTypeCases, PlainCatch, PlainCatches, PlainPair, PlainPairs, PlainStep, PlainSteps, PlainLookup, PlainClause, PlainClauses, PlainGroupVar, PlainGroupVars, PlainOrderKey, PlainOrderKeys}
-use Rattle.static_rules.specs.Views.{NamedTree, NamedTrees}
+use Rattle.query_tree.specs.NamedViews.{NamedTree}
+use Rattle.static_rules.specs.Views.{NamedTrees}
 use Rattle.static_rules.specs.Laws.{CompilingKeepsNesting}
 use Rattle.static_rules.specs.Compiling.{Names, with_slot, with_any, body_names, past, after_key, after_clause, after_clauses, after_bind, after_binds, compiled, compiled_form, compiled_content, compiled_trees, compiled_operand, compiled_operands, compiled_term, compiled_terms, compiled_factor, compiled_factors, compiled_bind, compiled_binds, compiled_case, compiled_cases, compiled_type_case, compiled_type_cases, compiled_catch, compiled_catches, compiled_pair, compiled_pairs, compiled_step, compiled_steps, compiled_lookup, compiled_clause, compiled_clauses, compiled_group_var, compiled_group_vars, compiled_order_key, compiled_order_keys}
 use Rattle.static_rules.proofs.KeptDeclarations.{variables-kept, functions-kept}

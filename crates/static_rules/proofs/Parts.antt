@@ -22,7 +22,9 @@ use Rattle.query_tree.specs.Binders.{operands_binders, operand_binders, terms_bi
 use Rattle.static_rules.specs.Compiling.{past, compiled_operands, compiled_operand, compiled_terms, compiled_term, compiled_factors, compiled_factor, compiled_trees, compiled, compiled_cases, compiled_case, compiled_type_cases, compiled_type_case, compiled_catches, compiled_catch, compiled_pairs, compiled_pair, compiled_steps, compiled_step, compiled_order_keys, compiled_order_key}
 use Rattle.static_rules.specs.Gathering.{Pushed}
 use Rattle.static_rules.specs.Walks.{State, view_of, passed}
-use Rattle.static_rules.specs.Sources.{named_operands, bound_operands, named_operand, bound_operand, named_terms, bound_terms, named_term, bound_term, named_factors, bound_factors, named_factor, bound_factor, named_trees, bound_trees, named_tree, bound_tree, named_cases, bound_cases, named_case, bound_case, named_type_cases, bound_type_cases, named_type_case, bound_type_case, named_catches, bound_catches, named_catch, bound_catch, named_pairs, bound_pairs, source_pair, bound_pair, named_steps, bound_steps, named_step, bound_step, named_order_keys, bound_order_keys, named_order_key, bound_order_key, behind_operands, behind_operand, behind_terms, behind_term, behind_factors, behind_factor, behind_trees, behind_tree, behind_cases, behind_case, behind_type_cases, behind_type_case, behind_catches, behind_catch, behind_pairs, behind_pair, behind_steps, behind_step, behind_order_keys, behind_order_key}
+use Rattle.query_tree.specs.NamedViews.{named_operands, named_operand, named_terms, named_term, named_factors, named_factor, named_tree_list, named_tree, named_cases, named_case, named_type_cases, named_type_case, named_catches, named_catch, named_pairs, source_pair, named_steps, named_step, named_order_keys, named_order_key}
+use Rattle.query_tree.specs.BoundViews.{bound_operands, bound_operand, bound_terms, bound_term, bound_factors, bound_factor, bound_tree_list, bound_tree, bound_cases, bound_case, bound_type_cases, bound_type_case, bound_catches, bound_catch, bound_pairs, bound_pair, bound_steps, bound_step, bound_order_keys, bound_order_key}
+use Rattle.static_rules.specs.Sources.{behind_operands, behind_operand, behind_terms, behind_term, behind_factors, behind_factor, behind_trees, behind_tree, behind_cases, behind_case, behind_type_cases, behind_type_case, behind_catches, behind_catch, behind_pairs, behind_pair, behind_steps, behind_step, behind_order_keys, behind_order_key}
 use Rattle.static_rules.proofs.Passing.{passed-names, passed-number, passed-none, passed-passed}
 
 abbrev pub with_operands : PlainOperands Slot Target SeqType → PlainOperands Slot Target SeqType → PlainOperands Slot Target SeqType
@@ -216,14 +218,14 @@ with_trees-none : (xs : Trees Slot Target SeqType) → with_trees xs p.no_trees 
 with_trees-none p.no_trees = refl
 with_trees-none (p.more_trees x xs) = ap (p.more_trees x) (with_trees-none xs)
 
-with_trees-one : (xs : List (Expr Slot Target SeqType)) (y : Expr Slot Target SeqType) (rest : Trees Slot Target SeqType) → with_trees (bound_trees (xs ++ y ∷ [])) rest ≡ with_trees (bound_trees xs) (p.more_trees (bound_tree y) rest)
+with_trees-one : (xs : List (Expr Slot Target SeqType)) (y : Expr Slot Target SeqType) (rest : Trees Slot Target SeqType) → with_trees (bound_tree_list (xs ++ y ∷ [])) rest ≡ with_trees (bound_tree_list xs) (p.more_trees (bound_tree y) rest)
 with_trees-one [] y rest = refl
 with_trees-one (x ∷ xs) y rest = ap (p.more_trees (bound_tree x)) (with_trees-one xs y rest)
 
 pub record TreesLeft (item : Bool) (old : State) (all : List (Expr (List ℕ) (List ℕ) TypeName)) (now : State) (out : List (Expr Slot Target SeqType)) (rest : List (Expr (List ℕ) (List ℕ) TypeName)) : Type 0 where
   names : now.names ≡ old.names
-  walk : passed now (trees_mentions (view_of item old.names) (named_trees rest)) (trees_binders (named_trees rest)) ≡ behind_trees old item (named_trees all)
-  tree : with_trees (bound_trees out) (compiled_trees old.names now.number (named_trees rest)) ≡ compiled_trees old.names old.number (named_trees all)
+  walk : passed now (trees_mentions (view_of item old.names) (named_tree_list rest)) (trees_binders (named_tree_list rest)) ≡ behind_trees old item (named_tree_list all)
+  tree : with_trees (bound_tree_list out) (compiled_trees old.names now.number (named_tree_list rest)) ≡ compiled_trees old.names old.number (named_tree_list all)
 
 trees-step : (item : Bool) (old : State) (all : List (Expr (List ℕ) (List ℕ) TypeName)) (now next : State) (out : List (Expr Slot Target SeqType)) (x : Expr (List ℕ) (List ℕ) TypeName) (rest : List (Expr (List ℕ) (List ℕ) TypeName)) (y : Expr Slot Target SeqType)
     → TreesLeft item old all now out (x ∷ rest) → bound_tree y ≡ compiled now.names now.number (named_tree x) → next ≡ behind_tree now item (named_tree x)
@@ -234,13 +236,13 @@ trees-step item old all now next out x rest y h made walked =
     record {
       names = ap (λ s. s.names) here ∙ passed-names now (mentions view (named_tree x)) (binders (named_tree x)) ∙ h.names;
       walk =
-          ap (λ s. passed s (trees_mentions view (named_trees rest)) (trees_binders (named_trees rest))) here
-          ∙ passed-passed now (mentions view (named_tree x)) (trees_mentions view (named_trees rest)) (binders (named_tree x)) (trees_binders (named_trees rest))
+          ap (λ s. passed s (trees_mentions view (named_tree_list rest)) (trees_binders (named_tree_list rest))) here
+          ∙ passed-passed now (mentions view (named_tree x)) (trees_mentions view (named_tree_list rest)) (binders (named_tree x)) (trees_binders (named_tree_list rest))
           ∙ h.walk;
       tree =
-          with_trees-one out y (compiled_trees old.names next.number (named_trees rest))
-          ∙ ap (λ k. with_trees (bound_trees out) (p.more_trees (bound_tree y) (compiled_trees old.names k (named_trees rest)))) (ap (λ s. s.number) here ∙ passed-number now (mentions view (named_tree x)) (binders (named_tree x)))
-          ∙ ap (λ b. with_trees (bound_trees out) (p.more_trees b (compiled_trees old.names (past now.number (binders (named_tree x))) (named_trees rest)))) (made ∙ ap (λ n. compiled n now.number (named_tree x)) h.names)
+          with_trees-one out y (compiled_trees old.names next.number (named_tree_list rest))
+          ∙ ap (λ k. with_trees (bound_tree_list out) (p.more_trees (bound_tree y) (compiled_trees old.names k (named_tree_list rest)))) (ap (λ s. s.number) here ∙ passed-number now (mentions view (named_tree x)) (binders (named_tree x)))
+          ∙ ap (λ b. with_trees (bound_tree_list out) (p.more_trees b (compiled_trees old.names (past now.number (binders (named_tree x))) (named_tree_list rest)))) (made ∙ ap (λ n. compiled n now.number (named_tree x)) h.names)
           ∙ h.tree;
     }
 
@@ -258,13 +260,13 @@ trees-more item old all now next out longer i x (Ok y) h l here made walked push
 trees-more item old all now next out longer i x (Err e) h l here made walked pushed = absurd pushed
 
 pub trees-tree : (item : Bool) (old : State) (all : List (Expr (List ℕ) (List ℕ) TypeName)) (now : State) (out : List (Expr Slot Target SeqType)) (i : ℕ)
-    → TreesLeft item old all now out (drop i all) → length all ≤ i → bound_trees out ≡ compiled_trees old.names old.number (named_trees all)
+    → TreesLeft item old all now out (drop i all) → length all ≤ i → bound_tree_list out ≡ compiled_trees old.names old.number (named_tree_list all)
 trees-tree item old all now out i h l =
     let g = subst (λ rest. TreesLeft item old all now out rest) (drop_all i all l) h in
-    sym (with_trees-none (bound_trees out)) ∙ g.tree
+    sym (with_trees-none (bound_tree_list out)) ∙ g.tree
 
 pub trees-walk : (item : Bool) (old : State) (all : List (Expr (List ℕ) (List ℕ) TypeName)) (now : State) (out : List (Expr Slot Target SeqType)) (i : ℕ)
-    → TreesLeft item old all now out (drop i all) → length all ≤ i → now ≡ behind_trees old item (named_trees all)
+    → TreesLeft item old all now out (drop i all) → length all ≤ i → now ≡ behind_trees old item (named_tree_list all)
 trees-walk item old all now out i h l =
     let g = subst (λ rest. TreesLeft item old all now out rest) (drop_all i all l) h in
     sym (passed-none now) ∙ g.walk

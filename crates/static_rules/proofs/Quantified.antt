@@ -3,7 +3,8 @@ use Rattle.std.proofs.Common.{◌≡◌, ℕ, Bool, List, ◌++◌, length, ap, 
 use Rattle.query_tree.specs.declared.names.TypeName.{TypeName}
 use Rattle.query_tree.specs.Plain.{PlainBinds}
 use Rattle.static_rules.specs.Views as views
-use Rattle.static_rules.specs.Views.{NamedTree, View, seeing}
+use Rattle.query_tree.specs.NamedViews.{NamedTree}
+use Rattle.static_rules.specs.Views.{View, seeing}
 use Rattle.static_rules.specs.Mentions.{MentionAt, mentions, binds_mentions}
 use Rattle.query_tree.specs.Binders.{binders, binds_binders}
 use Rattle.static_rules.specs.Compiling.{Names, after_binds}

@@ -9,7 +9,8 @@ use Rattle.query_tree.specs.Modules.{PlainVariable, PlainFunction}
 use Rattle.query_tree.specs.Bound.{BoundTree}
 use Rattle.query_tree.specs.Compiled.{BoundTrees}
 use Rattle.seq_types.specs.declared.types.SeqType.{SeqType}
-use Rattle.static_rules.specs.Views.{View, NamedQuery}
+use Rattle.query_tree.specs.NamedViews.{NamedQuery}
+use Rattle.static_rules.specs.Views.{View}
 use Rattle.static_rules.specs.Mentions.{MentionAt, mentions, variables_mentions, functions_mentions, after_variables, callee_of, body_view}
 use Rattle.static_rules.specs.Refusals.{refusal}
 use Rattle.query_tree.specs.Binders.{binders}

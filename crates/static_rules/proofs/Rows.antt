@@ -17,7 +17,7 @@ use Rattle.query_tree.specs.Plain as p
 use Rattle.query_tree.specs.Plain.{Tree, Form}
 use Rattle.query_tree.specs.Modules.{PlainVariable, PlainFunction}
 use Rattle.query_tree.specs.Compiled.{is_compiled}
-use Rattle.static_rules.specs.Views.{NamedTree, NamedQuery}
+use Rattle.query_tree.specs.NamedViews.{NamedTree, NamedQuery}
 use Rattle.static_rules.specs.declared.rules.Refusal.{Refusal}
 use Rattle.static_rules.specs.declared.rules.Rule.{Rule}
 use Rattle.static_rules.specs.declared.rules.Rule.TheVariants.{UnboundVariable, UnknownFunction, UnknownType, UnknownCastType, FunctionTwice, ParameterTwice, VariableTwice, PositionTwice, NoStreamVariable, NoContextItem, UnnamedInput}

@@ -7,7 +7,8 @@ use Rattle.query_tree.specs.Plain.{Form, MaybeTree, PlainOperand, PlainOperands,
 use Rattle.query_tree.specs.Scopes.{Scope}
 use Rattle.query_tree.specs.Bound.{is_bound, form_bound, content_bound, trees_bound, operand_bound, operands_bound, term_bound, terms_bound, factor_bound, factors_bound, bind_bound, binds_bound, case_bound, cases_bound, type_case_bound, type_cases_bound, catch_bound, catches_bound, pair_bound, pairs_bound, step_bound, steps_bound, lookup_bound, clause_bound, clauses_bound, group_var_bound, group_vars_bound, order_key_bound, order_keys_bound}
 use Rattle.static_rules.specs.Views
-use Rattle.static_rules.specs.Views.{NamedTree, NamedTrees, View, with_name, with_item, seeing, and_any}
+use Rattle.query_tree.specs.NamedViews.{NamedTree}
+use Rattle.static_rules.specs.Views.{NamedTrees, View, with_name, with_item, seeing, and_any}
 use Rattle.static_rules.specs.Mentions.{MentionAt, mention_at, calls, has_type, casts_to, types_mentions, type_mentions, position_mentions, mentions, form_mentions, content_mentions, trees_mentions, operand_mentions, operands_mentions, term_mentions, terms_mentions, factor_mentions, factors_mentions, bind_mentions, binds_mentions, case_mentions, cases_mentions, type_case_mentions, type_cases_mentions, catch_mentions, catches_mentions, pair_mentions, pairs_mentions, step_mentions, steps_mentions, lookup_mentions, clause_mentions, clauses_mentions, group_var_mentions, group_vars_mentions, order_key_mentions, order_keys_mentions}
 use Rattle.query_tree.specs.Binders
 use Rattle.static_rules.specs.Compiling.{Names, past, compiled, compiled_form, compiled_content, compiled_trees, compiled_operand, compiled_operands, compiled_term, compiled_terms, compiled_factor, compiled_factors, compiled_bind, compiled_binds, compiled_case, compiled_cases, compiled_type_case, compiled_type_cases, compiled_catch, compiled_catches, compiled_pair, compiled_pairs, compiled_step, compiled_steps, compiled_lookup, compiled_clause, compiled_clauses, compiled_group_var, compiled_group_vars, compiled_order_key, compiled_order_keys}

@@ -14,7 +14,8 @@ use Rattle.query_tree.specs.Modules.{PlainVariable, PlainFunction}
 use Rattle.query_tree.specs.Scopes.{these, Scope, may_read, is_count}
 use Rattle.query_tree.specs.Bindings.{bindings}
 use Rattle.query_tree.specs.Compiled.{variable_scope, body_scope, params_bound, variables_bound, functions_bound, params_bindings, are_apart}
-use Rattle.static_rules.specs.Views.{NamedQuery, Callee, View, has_name, has_callee, seeing}
+use Rattle.query_tree.specs.NamedViews.{NamedQuery}
+use Rattle.static_rules.specs.Views.{Callee, View, has_name, has_callee, seeing}
 use Rattle.static_rules.specs.Mentions.{MentionAt, mention_at, declares_variable, declares_function, type_mentions, mentions, callee_of, after_params, params_mentions, variables_mentions, functions_mentions, after_variables, body_view, query_mentions}
 use Rattle.static_rules.specs.Rules.{breaks}
 use Rattle.static_rules.specs.declared.rules.Rule.{Rule}

@@ -14,7 +14,7 @@ use Rattle.query_tree.specs.declared.part.TypeCase.{TypeCase}
 use Rattle.query_tree.specs.declared.names.TypeName.{TypeName}
 use Rattle.query_tree.specs.Plain.{switch_form, typeswitch_form, quant_form}
 use Rattle.query_tree.proofs.Layers.{form_of-Switch, form_of-Typeswitch, form_of-Quant}
-use Rattle.static_rules.specs.Sources.{named_tree, named_form, named_cases, named_type_cases, named_binds}
+use Rattle.query_tree.specs.NamedViews.{named_tree, named_form, named_cases, named_type_cases, named_binds}
 
 pub switch-lent : (k : Kind (List ℕ) (List ℕ) TypeName) (operand default : Box (Expr (List ℕ) (List ℕ) TypeName) Global) (cases : Vec (Case (Expr (List ℕ) (List ℕ) TypeName)) Global) (a b : Expr (List ℕ) (List ℕ) TypeName) (cs : List (Case (Expr (List ℕ) (List ℕ) TypeName)))
     → k ≡ kind.Switch operand cases default → a ≡ operand.value → cs ≡ cases.items → b ≡ default.value → switch_form (named_tree a) (named_cases cs) (named_tree b) ≡ named_form k

@@ -3,7 +3,8 @@ use Rattle.std.proofs.Common.{◌≡◌, ℕ, Bool, Option, List, ◌++◌, appe
 use Rattle.query_tree.specs.declared.names.Placed.{Placed}
 use Rattle.query_tree.specs.declared.names.TypeName.{TypeName}
 use Rattle.query_tree.specs.Plain.{PlainTypeCases}
-use Rattle.static_rules.specs.Views.{NamedTree, seeing, and_any}
+use Rattle.query_tree.specs.NamedViews.{NamedTree}
+use Rattle.static_rules.specs.Views.{seeing, and_any}
 use Rattle.static_rules.specs.Mentions.{mentions, type_cases_mentions}
 use Rattle.query_tree.specs.Binders.{binders, type_cases_binders, any_name}
 use Rattle.static_rules.specs.Compiling.{Names}

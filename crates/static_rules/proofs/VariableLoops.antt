@@ -14,7 +14,9 @@ use Rattle.static_rules.specs.Mentions.{variables_mentions}
 use Rattle.static_rules.specs.Compiling.{Names, with_slot, globals_after, compiled_variables, variable_width, greatest}
 use Rattle.static_rules.specs.Gathering.{Pushed}
 use Rattle.static_rules.specs.Walks.{State, view_of, bound_names}
-use Rattle.static_rules.specs.Declarations.{named_variable, bound_variable, variable_mentions, compiled_variable, begun, declared, behind_variable, behind_variables}
+use Rattle.query_tree.specs.NamedViews.{named_variable}
+use Rattle.query_tree.specs.BoundViews.{bound_variable}
+use Rattle.static_rules.specs.Declarations.{variable_mentions, compiled_variable, begun, declared, behind_variable, behind_variables}
 use Rattle.static_rules.proofs.Declaring.{declared-names, declared-number, declared-declared, declared-none, greatest-more, greatest-none}
 
 abbrev named : List (Variable (List ℕ) (List ℕ) TypeName) → List (PlainVariable (List ℕ) (List ℕ) TypeName)

@@ -3,7 +3,8 @@ use Rattle.std.specs.Prelude.{ℕ, Option, Some, None, List, [], ◌∷◌}
 use Rattle.query_tree.specs.declared.names.TypeName.{TypeName}
 use Rattle.query_tree.specs.Plain as p
 use Rattle.query_tree.specs.Plain.{Form}
-use Rattle.static_rules.specs.Views.{NamedTree, NamedTrees}
+use Rattle.query_tree.specs.NamedViews.{NamedTree}
+use Rattle.static_rules.specs.Views.{NamedTrees}
 
 -- the string that an expression is, where it is spelled out
 abbrev pub text_in : Form (List ℕ) (List ℕ) TypeName → Option (List ℕ)

@@ -21,7 +21,8 @@ use Rattle.query_tree.specs.Plain as p
 use Rattle.query_tree.specs.Plain.{Tree, Trees, Form, MaybeTree, PlainOperand, PlainOperands, PlainTerm, PlainTerms, PlainFactor, PlainFactors, PlainBind, PlainBinds, PlainCase, PlainCases, PlainTypeCase, PlainTypeCases, PlainCatch, PlainCatches, PlainPair, PlainPairs, PlainStep, PlainSteps, PlainLookup, PlainClause, PlainClauses, PlainGroupVar, PlainGroupVars, PlainOrderKey, PlainOrderKeys}
 use Rattle.query_tree.specs.Bound.{BoundTree}
 use Rattle.query_tree.specs.Compiled.{BoundTrees, is_compiled}
-use Rattle.static_rules.specs.Views.{NamedTree, NamedTrees, NamedQuery, Callee, argument_count}
+use Rattle.query_tree.specs.NamedViews.{NamedTree, NamedQuery}
+use Rattle.static_rules.specs.Views.{NamedTrees, Callee, argument_count}
 use Rattle.static_rules.specs.Mentions.{callee_of}
 use Rattle.static_rules.specs.Calls.{texts_of}
 use Rattle.static_rules.specs.Rules.{is_lines, is_empty_sequence}

@@ -1,15 +1,13 @@
--- The declarations of a query as plain values, and the states of the walk behind them.
+-- The declarations of a query, and the states of the walk behind them.
 use Rattle.std.specs.Prelude.{ℕ, false, None, option_map, List, [], ◌∷◌, ◌++◌, length, map, take, reverse}
 use Rattle.query_tree.specs.declared.bound.Slot.{Slot}
 use Rattle.query_tree.specs.declared.bound.Slot.TheVariants.{Local, Global}
 use Rattle.query_tree.specs.declared.bound.Target.{Target}
 use Rattle.query_tree.specs.declared.bound.Target.TheVariants.{Own}
-use Rattle.query_tree.specs.declared.module.Variable.{Variable}
-use Rattle.query_tree.specs.declared.module.Function.{Function}
 use Rattle.query_tree.specs.declared.module.Param.{Param}
 use Rattle.query_tree.specs.declared.names.TypeName.{TypeName}
 use Rattle.query_tree.specs.Binders.{params_binders}
-use Rattle.query_tree.specs.Modules.{PlainVariable, PlainFunction, variable_of, function_of}
+use Rattle.query_tree.specs.Modules.{PlainVariable, PlainFunction}
 use Rattle.seq_types.specs.declared.types.SeqType.{SeqType}
 use Rattle.static_rules.specs.Views.{View, Callee, seeing}
 use Rattle.static_rules.specs.Mentions.{MentionAt, mention_at, mentions, type_mentions, declares_variable, declares_parameter, declares_function, variables_mentions, params_mentions, functions_mentions, callee_of, after_params}
@@ -17,20 +15,6 @@ use Rattle.static_rules.specs.Compiling.{Names, with_slot, binding, placed_type,
 use Rattle.static_rules.specs.Walks.{State, view_of, bound_names, sooner, first_of}
 use Rattle.static_rules.specs.Openings.{entered}
 use Rattle.static_rules.specs.Behind.{stream_of}
-
-abbrev pub named_variable : Variable (List ℕ) (List ℕ) TypeName
-    → PlainVariable (List ℕ) (List ℕ) TypeName
-named_variable = variable_of (List ℕ) (List ℕ) TypeName
-
-abbrev pub bound_variable : Variable Slot Target SeqType → PlainVariable Slot Target SeqType
-bound_variable = variable_of Slot Target SeqType
-
-abbrev pub named_function : Function (List ℕ) (List ℕ) TypeName
-    → PlainFunction (List ℕ) (List ℕ) TypeName
-named_function = function_of (List ℕ) (List ℕ) TypeName
-
-abbrev pub bound_function : Function Slot Target SeqType → PlainFunction Slot Target SeqType
-bound_function = function_of Slot Target SeqType
 
 -- what one declaration mentions
 abbrev pub variable_mentions : View → PlainVariable (List ℕ) (List ℕ) TypeName → List MentionAt

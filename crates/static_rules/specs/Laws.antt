@@ -5,7 +5,7 @@ use Rattle.query_tree.specs.Bindings.{bindings}
 use Rattle.query_tree.specs.Compiled.{params_bindings}
 use Rattle.query_tree.specs.Nesting.{nesting, variable_nesting, function_nesting}
 use Rattle.query_tree.specs.Spines.{spine, commas_apart}
-use Rattle.static_rules.specs.Views.{NamedQuery}
+use Rattle.query_tree.specs.NamedViews.{NamedQuery}
 use Rattle.static_rules.specs.Compiling.{compiled_query, variable_width, function_width}
 
 -- each declaration of the compiled tree, and its body, is nested as that of the query is

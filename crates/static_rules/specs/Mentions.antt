@@ -6,7 +6,8 @@ use Rattle.query_tree.specs.declared.module.Param.{Param}
 use Rattle.query_tree.specs.Modules.{PlainVariable, PlainFunction}
 use Rattle.query_tree.specs.Plain as p
 use Rattle.query_tree.specs.Plain.{Trees, Form, MaybeTree, PlainOperand, PlainOperands, PlainTerm, PlainTerms, PlainFactor, PlainFactors, PlainBind, PlainBinds, PlainCase, PlainCases, PlainTypeCase, PlainTypeCases, PlainCatch, PlainCatches, PlainPair, PlainPairs, PlainStep, PlainSteps, PlainLookup, PlainClause, PlainClauses, PlainGroupVar, PlainGroupVars, PlainOrderKey, PlainOrderKeys}
-use Rattle.static_rules.specs.Views.{NamedTree, NamedTrees, NamedQuery, Callee, View, with_name, with_item, seeing, and_any, after_bind, after_binds, after_key, after_clause, after_clauses}
+use Rattle.query_tree.specs.NamedViews.{NamedTree, NamedQuery}
+use Rattle.static_rules.specs.Views.{NamedTrees, Callee, View, with_name, with_item, seeing, and_any, after_bind, after_binds, after_key, after_clause, after_clauses}
 
 pub data Mention : Type 0 where
   -- a variable that is read, and the names that are bound

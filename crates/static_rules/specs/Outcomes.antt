@@ -1,20 +1,14 @@
 -- What compiling a query comes to.
-use Rattle.std.specs.Prelude.{◌≡◌, ℕ, List, Some, None}
-use Rattle.query_tree.specs.declared.module.Module.{Module}
-use Rattle.query_tree.specs.declared.names.TypeName.{TypeName}
-use Rattle.query_tree.specs.Modules.{module_of}
+use Rattle.std.specs.Prelude.{◌≡◌, Some, None}
 use Rattle.query_tree.specs.Compiled.{CompiledTree, bound_trees}
-use Rattle.static_rules.specs.Views.{NamedQuery}
+use Rattle.query_tree.specs.NamedViews.{NamedQuery}
+pub use Rattle.query_tree.specs.NamedViews.{named_query}
 use Rattle.static_rules.specs.Rules.{code_of}
 use Rattle.static_rules.specs.Refusals.{refusal}
 use Rattle.static_rules.specs.Compiling.{compiled_query, query_width}
 use Rattle.static_rules.specs.declared.compiling.CompileFault.{CompileFault}
 use Rattle.static_rules.specs.declared.compiling.CompileFault.TheVariants as fault
 use Rattle.static_rules.specs.declared.rules.Refusal.{Refusal}
-
--- the plain value of a query as it was read
-abbrev pub named_query : Module (List ℕ) (List ℕ) TypeName → NamedQuery
-named_query = module_of (List ℕ) (List ℕ) TypeName
 
 -- the query breaks no rule, and this is its compiled tree, with frames as wide as its
 -- declarations and its body need

@@ -2,7 +2,7 @@
 -- rule.
 use Rattle.std.specs.Prelude.{◌≡◌, ℕ, ◌≤◌, Bool, true, false, ◌&&◌, ◌||◌, ◌==◌, nat_lt, Option, Some, None, List, [], ◌∷◌, map, filter, if◌then◌else◌}
 use Rattle.std.specs.List.{list_any, flat_map}
-use Rattle.static_rules.specs.Views.{NamedQuery}
+use Rattle.query_tree.specs.NamedViews.{NamedQuery}
 use Rattle.static_rules.specs.Mentions.{MentionAt, query_mentions}
 use Rattle.static_rules.specs.declared.rules.Refusal.{Refusal}
 use Rattle.static_rules.specs.declared.rules.Rule.{Rule}

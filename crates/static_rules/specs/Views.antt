@@ -4,19 +4,12 @@ use Rattle.std.specs.List.{list_any}
 use Rattle.std.specs.Str.{bytes_eq}
 use Rattle.query_tree.specs.declared.names.Placed.{Placed}
 use Rattle.query_tree.specs.declared.names.TypeName.{TypeName}
-use Rattle.query_tree.specs.Modules.{PlainModule}
 use Rattle.query_tree.specs.Plain as p
-use Rattle.query_tree.specs.Plain.{Tree, Trees, PlainClause, PlainClauses, PlainGroupVar, PlainGroupVars, PlainBind, PlainBinds}
+use Rattle.query_tree.specs.Plain.{Trees, PlainClause, PlainClauses, PlainGroupVar, PlainGroupVars, PlainBind, PlainBinds}
 
--- the plain values of an expression and of a query as they were read
-abbrev pub NamedTree : Type 0
-NamedTree = Tree (List ℕ) (List ℕ) TypeName
-
+-- the plain value of a list of expressions as they were read
 abbrev pub NamedTrees : Type 0
 NamedTrees = Trees (List ℕ) (List ℕ) TypeName
-
-abbrev pub NamedQuery : Type 0
-NamedQuery = PlainModule (List ℕ) (List ℕ) TypeName
 
 abbrev pub argument_count : NamedTrees → ℕ
 argument_count p.no_trees = 0

@@ -3,7 +3,7 @@ ghost use Rattle.std.specs.Str.{bytes_eq};
 ghost use Rattle.static_rules.specs.Rules.{is_lines, are_texts, is_name_count, name_inputs};
 ghost use Rattle.static_rules.specs.Calls.{text_in, texts_of};
 ghost use Rattle.static_rules.specs.Stacks.{callee_of};
-ghost use Rattle.static_rules.specs.Sources.{named_form, named_trees};
+ghost use Rattle.query_tree.specs.NamedViews.{named_form, named_tree_list};
 
 use crate::leaves::NamedKind;
 use crate::walk::Known;
@@ -44,7 +44,7 @@ fn text_in(kind: &NamedKind) -> Option<&Str>
 /// Whether there are 1 to 64 arguments, each a string that is spelled out.
 #[tactic(auto, using(crate::proofs::Calling::argument_length))]
 pub fn name_inputs(arguments: &[NamedExpr]) -> bool
-    ensures { result ≡ name_inputs (named_trees arguments.now) }
+    ensures { result ≡ name_inputs (named_tree_list arguments.now) }
 {
     is_name_count(arguments.len()) && are_texts(arguments)
 }
@@ -58,7 +58,7 @@ fn is_name_count(count: usize) -> bool
 
 // Whether each argument is a string that is spelled out.
 fn are_texts(arguments: &[NamedExpr]) -> bool
-    ensures { result ≡ are_texts (named_trees arguments.now) }
+    ensures { result ≡ are_texts (named_tree_list arguments.now) }
 {
     for argument in arguments {
         if text_in(&argument.kind).is_none() {
@@ -70,7 +70,7 @@ fn are_texts(arguments: &[NamedExpr]) -> bool
 
 /// The strings among the arguments that are spelled out, in order.
 pub fn texts(alloc: Global, arguments: &[NamedExpr]) -> Result<Vec<Str>, NoMemory>
-    ensures { IfOk result (λ v. v.items ≡ texts_of (named_trees arguments.now)) }
+    ensures { IfOk result (λ v. v.items ≡ texts_of (named_tree_list arguments.now)) }
 {
     let mut out = Vec::new(alloc);
     for argument in arguments {

@@ -7,7 +7,9 @@ ghost use Rattle.query_tree.specs.Binders.{binders, any_name};
 ghost use Rattle.static_rules.specs.Walks.{view_of, bound_names, passed};
 ghost use Rattle.query_tree.specs.Plain.{try_form, typeswitch_form, switch_form, if_form};
 ghost use Rattle.static_rules.specs.Compiling.{past, with_any, any_binding, compiled_catches, compiled_catch, compiled_type_cases, compiled_type_case, compiled, compiled_form, compiled_cases, compiled_case};
-ghost use Rattle.static_rules.specs.Sources.{named_catches, bound_catches, named_catch, bound_catch, named_type_cases, bound_type_cases, named_type_case, bound_type_case, behind_catches, behind_catch, behind_type_cases, behind_type_case, named_tree, bound_tree, bound_form, named_cases, bound_cases, named_case, bound_case, behind_form, behind_cases, behind_case};
+ghost use Rattle.query_tree.specs.NamedViews.{named_catches, named_catch, named_type_cases, named_type_case, named_tree, named_cases, named_case};
+ghost use Rattle.query_tree.specs.BoundViews.{bound_catches, bound_catch, bound_type_cases, bound_type_case, bound_tree, bound_form, bound_cases, bound_case};
+ghost use Rattle.static_rules.specs.Sources.{behind_catches, behind_catch, behind_type_cases, behind_type_case, behind_form, behind_cases, behind_case};
 
 use crate::exprs::expr;
 use crate::gather::{both, boxed, pushed};

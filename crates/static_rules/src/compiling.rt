@@ -4,7 +4,8 @@ ghost use Rattle.std.specs.Prelude.{◌≡◌, IfOk, IfErr, OnOk};
 ghost use Rattle.query_tree.specs.Compiled.{bound_trees};
 ghost use Rattle.static_rules.specs.Compiling.{compiled_query, query_width};
 ghost use Rattle.static_rules.specs.Declarations.{started};
-ghost use Rattle.static_rules.specs.Outcomes.{named_query, CompilesTo, IsCompileFault};
+ghost use Rattle.query_tree.specs.NamedViews.{named_query};
+ghost use Rattle.static_rules.specs.Outcomes.{CompilesTo, IsCompileFault};
 ghost use Rattle.static_rules.specs.Refusals.{refusal};
 
 use crate::declarations::{functions, variables};

@@ -6,7 +6,9 @@ ghost use Rattle.static_rules.specs.Mentions as m;
 ghost use Rattle.static_rules.specs.Rules.{is_lines, is_built_in};
 ghost use Rattle.static_rules.specs.Compiling.{compiled_variables, compiled_functions, compiled_params, variable_width, function_width, greatest};
 ghost use Rattle.static_rules.specs.Stacks.{callee_of};
-ghost use Rattle.static_rules.specs.Declarations.{named_variable, bound_variable, named_function, bound_function, compiled_variable, compiled_function, compiled_param, with_functions, earlier_functions, behind_variable, behind_variables, behind_function, behind_functions, behind_param, behind_params};
+ghost use Rattle.query_tree.specs.NamedViews.{named_variable, named_function};
+ghost use Rattle.query_tree.specs.BoundViews.{bound_variable, bound_function};
+ghost use Rattle.static_rules.specs.Declarations.{compiled_variable, compiled_function, compiled_param, with_functions, earlier_functions, behind_variable, behind_variables, behind_function, behind_functions, behind_param, behind_params};
 
 use crate::Rule;
 use crate::calls::is_lines;

@@ -2,7 +2,9 @@
 
 ghost use Rattle.std.specs.Prelude.{◌≡◌, IfOk, OnOk};
 ghost use Rattle.static_rules.specs.Compiling.{compiled, compiled_form};
-ghost use Rattle.static_rules.specs.Sources.{named_tree, bound_tree, named_form, bound_form, behind_tree, behind_form};
+ghost use Rattle.query_tree.specs.NamedViews.{named_tree, named_form};
+ghost use Rattle.query_tree.specs.BoundViews.{bound_tree, bound_form};
+ghost use Rattle.static_rules.specs.Sources.{behind_tree, behind_form};
 
 use crate::choices::{choice, switch, tried, typeswitch};
 use crate::flwor::flwor;

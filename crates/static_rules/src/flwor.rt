@@ -9,7 +9,9 @@ ghost use Rattle.static_rules.specs.Openings.{entered};
 ghost use Rattle.static_rules.specs.Behind.{below, behind_clause, behind_clauses, behind_key, behind_keys};
 ghost use Rattle.query_tree.specs.declared.bound.Slot.TheVariants.{Local};
 ghost use Rattle.static_rules.specs.Compiling.{with_slot, binding, placed_type, compiled, compiled_form, compiled_clauses, compiled_clause, compiled_group_vars, compiled_group_var, compiled_order_keys, compiled_order_key};
-ghost use Rattle.static_rules.specs.Sources.{named_tree, bound_tree, bound_form, behind_form, named_clauses, bound_clauses, named_clause, bound_clause, named_group_vars, bound_group_vars, named_group_var, bound_group_var, named_order_keys, bound_order_keys, named_order_key, bound_order_key, behind_order_keys, behind_order_key};
+ghost use Rattle.query_tree.specs.NamedViews.{named_tree, named_clauses, named_clause, named_group_vars, named_group_var, named_order_keys, named_order_key};
+ghost use Rattle.query_tree.specs.BoundViews.{bound_tree, bound_form, bound_clauses, bound_clause, bound_group_vars, bound_group_var, bound_order_keys, bound_order_key};
+ghost use Rattle.static_rules.specs.Sources.{behind_form, behind_order_keys, behind_order_key};
 
 use crate::exprs::expr;
 use crate::gather::{both, boxed, pushed};

@@ -4,7 +4,8 @@ ghost use Rattle.static_rules.specs.Mentions.{types_mentions, type_mentions};
 ghost use Rattle.static_rules.specs.Compiling.{compiled_form, compiled_lookup, placed_type, any_binding};
 ghost use Rattle.query_tree.specs.declared.bound.Slot.TheVariants.{Local};
 ghost use Rattle.static_rules.specs.Walks.{passed};
-ghost use Rattle.static_rules.specs.Sources.{bound_form, bound_lookup, behind_form, behind_lookup};
+ghost use Rattle.query_tree.specs.BoundViews.{bound_form, bound_lookup};
+ghost use Rattle.static_rules.specs.Sources.{behind_form, behind_lookup};
 
 use crate::walk::Walk;
 use item_tree::{NoMemory, Str, Units, Whole};

@@ -3,7 +3,9 @@
 ghost use Rattle.std.specs.Prelude.{◌≡◌, IfOk, OnOk};
 ghost use Rattle.query_tree.specs.Plain.{comma_form, or_form, and_form, not_form, compare_form, concat_form, range_form, sum_form, product_form, instance_form, treat_form, castable_form, cast_form, sign_form, map_form};
 ghost use Rattle.static_rules.specs.Compiling.{compiled_form, compiled_operands, compiled_operand, compiled_terms, compiled_term, compiled_factors, compiled_factor};
-ghost use Rattle.static_rules.specs.Sources.{named_tree, bound_form, named_operands, bound_operands, named_operand, bound_operand, named_terms, bound_terms, named_term, bound_term, named_factors, bound_factors, named_factor, bound_factor, behind_form, behind_operands, behind_operand, behind_terms, behind_term, behind_factors, behind_factor};
+ghost use Rattle.query_tree.specs.NamedViews.{named_tree, named_operands, named_operand, named_terms, named_term, named_factors, named_factor};
+ghost use Rattle.query_tree.specs.BoundViews.{bound_form, bound_operands, bound_operand, bound_terms, bound_term, bound_factors, bound_factor};
+ghost use Rattle.static_rules.specs.Sources.{behind_form, behind_operands, behind_operand, behind_terms, behind_term, behind_factors, behind_factor};
 
 use crate::exprs::expr;
 use crate::gather::{both, boxed, pushed};

@@ -3,7 +3,9 @@
 ghost use Rattle.std.specs.Prelude.{◌≡◌, IfOk, OnOk};
 ghost use Rattle.query_tree.specs.Plain.{one_tree, named_pair, computed_pair, paren_form, object_form, merge_form, array_form, call_form};
 ghost use Rattle.static_rules.specs.Compiling.{compiled, compiled_form, compiled_content, compiled_trees, compiled_pairs, compiled_pair};
-ghost use Rattle.static_rules.specs.Sources.{named_tree, bound_form, named_content, bound_content, named_trees, bound_trees, named_pairs, bound_pairs, source_pair, bound_pair, behind_tree, behind_form, behind_content, behind_trees, behind_pairs, behind_pair};
+ghost use Rattle.query_tree.specs.NamedViews.{named_tree, named_content, named_tree_list, named_pairs, source_pair};
+ghost use Rattle.query_tree.specs.BoundViews.{bound_form, bound_content, bound_tree_list, bound_pairs, bound_pair};
+ghost use Rattle.static_rules.specs.Sources.{behind_tree, behind_form, behind_content, behind_trees, behind_pairs, behind_pair};
 
 use crate::exprs::expr;
 use crate::gather::{both, boxed, pushed};
@@ -229,10 +231,11 @@ pub fn call<'q>(
         (λ t.
         bound_form t
         ≡ compiled_form walk.old.names walk.old.number
-        (call_form function.now (named_trees arguments.now))) }
+        (call_form function.now (named_tree_list arguments.now))) }
     ensures walk { OnOk result
         (walk.new
-        ≡ behind_form walk.old item place (call_form function.now (named_trees arguments.now))) }
+        ≡ behind_form walk.old item place
+        (call_form function.now (named_tree_list arguments.now))) }
 {
     let function = walk.call(alloc, place, function, arguments);
     let arguments = trees(alloc, walk, item, arguments);
@@ -252,9 +255,9 @@ pub fn trees<'q>(
 ) -> Result<Vec<BoundExpr>, NoMemory>
     ensures tree { IfOk result
         (λ t.
-        bound_trees t.items
-        ≡ compiled_trees walk.old.names walk.old.number (named_trees parts.now)) }
-    ensures walk { OnOk result (walk.new ≡ behind_trees walk.old item (named_trees parts.now)) }
+        bound_tree_list t.items
+        ≡ compiled_trees walk.old.names walk.old.number (named_tree_list parts.now)) }
+    ensures walk { OnOk result (walk.new ≡ behind_trees walk.old item (named_tree_list parts.now)) }
 {
     let mut out = Vec::new(alloc);
     for part in parts {

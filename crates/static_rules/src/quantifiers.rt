@@ -4,7 +4,9 @@ ghost use Rattle.std.specs.Prelude.{◌≡◌, IfOk, OnOk};
 ghost use Rattle.static_rules.specs.Behind.{behind_bind, behind_binds};
 ghost use Rattle.query_tree.specs.Plain.{quant_form};
 ghost use Rattle.static_rules.specs.Compiling.{compiled_binds, compiled_bind, compiled_form};
-ghost use Rattle.static_rules.specs.Sources.{named_binds, bound_binds, named_bind, bound_bind, named_tree, bound_form, behind_form};
+ghost use Rattle.query_tree.specs.NamedViews.{named_binds, named_bind, named_tree};
+ghost use Rattle.query_tree.specs.BoundViews.{bound_binds, bound_bind, bound_form};
+ghost use Rattle.static_rules.specs.Sources.{behind_form};
 
 use crate::exprs::expr;
 use crate::flwor::bound;

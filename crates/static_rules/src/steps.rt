@@ -3,7 +3,9 @@
 ghost use Rattle.std.specs.Prelude.{◌≡◌, IfOk, OnOk};
 ghost use Rattle.query_tree.specs.Plain.{member_step, filter_step, field_step, computed_lookup, postfix_form};
 ghost use Rattle.static_rules.specs.Compiling.{compiled, compiled_form, compiled_lookup, compiled_steps, compiled_step};
-ghost use Rattle.static_rules.specs.Sources.{named_tree, bound_form, named_lookup, bound_lookup, named_steps, bound_steps, named_step, bound_step, behind_tree, behind_form, behind_lookup, behind_steps, behind_step};
+ghost use Rattle.query_tree.specs.NamedViews.{named_tree, named_lookup, named_steps, named_step};
+ghost use Rattle.query_tree.specs.BoundViews.{bound_form, bound_lookup, bound_steps, bound_step};
+ghost use Rattle.static_rules.specs.Sources.{behind_tree, behind_form, behind_lookup, behind_steps, behind_step};
 
 use crate::exprs::expr;
 use crate::gather::{both, boxed, pushed};

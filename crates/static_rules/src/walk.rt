@@ -9,7 +9,7 @@ ghost use Rattle.item_tree.specs.Functions.{function_named};
 ghost use Rattle.static_rules.specs.Views.{has_callee, has_name};
 ghost use Rattle.static_rules.specs.Rules.{is_built_in};
 ghost use Rattle.static_rules.specs.declared.rules.Rule.TheVariants.{UnknownFunction};
-ghost use Rattle.static_rules.specs.Sources.{named_trees};
+ghost use Rattle.query_tree.specs.NamedViews.{named_tree_list};
 ghost use Rattle.static_rules.specs.Behind.{below, stream_of};
 ghost use Rattle.static_rules.specs.Openings.{opened, opened_any, numbered, bound_to, bound_for, closed};
 ghost use Rattle.static_rules.specs.Stacks.{bindings_of};
@@ -252,12 +252,12 @@ impl<'q> Walk<'q> {
         arguments: &[NamedExpr],
     ) -> Result<Target, NoMemory>
         ensures value { IfOk result
-            (λ t. t ≡ target_of self.old.names name.now (named_trees arguments.now)) }
+            (λ t. t ≡ target_of self.old.names name.now (named_tree_list arguments.now)) }
         ensures walk { OnOk result
             (self.new
             ≡ passed self.old
             (mention_at place
-            (calls name.now (named_trees arguments.now) self.old.names.functions) ∷ []) []) }
+            (calls name.now (named_tree_list arguments.now) self.old.names.functions) ∷ []) []) }
     {
         if is_lines(name) {
             self.test(!name_inputs(arguments), Rule::UnnamedInput, place);

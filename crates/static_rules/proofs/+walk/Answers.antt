@@ -2,7 +2,9 @@ use Rattle.std.proofs.Common.{◌≡◌, IfOk, OnOk, sym, subst, ◌∙◌}
 use Rattle.static_rules.specs.Mentions.{group_vars_mentions}
 use Rattle.query_tree.specs.Binders.{group_vars_binders}
 use Rattle.static_rules.specs.Compiling.{compiled_form, compiled_group_vars, after_keys}
-use Rattle.static_rules.specs.Sources.{bound_form, behind_form, named_tree, named_type_cases, named_binds, named_clauses, named_group_vars, bound_group_vars}
+use Rattle.query_tree.specs.NamedViews.{named_tree, named_type_cases, named_binds, named_clauses, named_group_vars}
+use Rattle.query_tree.specs.BoundViews.{bound_form, bound_group_vars}
+use Rattle.static_rules.specs.Sources.{behind_form}
 use Rattle.static_rules.specs.Walks.{view_of}
 use Rattle.static_rules.specs.Openings.{entered}
 use Rattle.static_rules.specs.Behind.{stream_of, behind_clauses}

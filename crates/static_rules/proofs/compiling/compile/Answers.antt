@@ -1,7 +1,7 @@
 use Rattle.std.proofs.Common.{sym, ap, ◌∙◌}
 use Rattle.query_tree.specs.Compiled.{is_compiled}
 use Rattle.static_rules.specs.Compiling.{compiled_query}
-use Rattle.static_rules.specs.Outcomes.{named_query}
+use Rattle.query_tree.specs.NamedViews.{named_query}
 use Rattle.static_rules.proofs.Made.{on-made, of-made}
 use Rattle.static_rules.proofs.compiling.compile.Goals as goal
 

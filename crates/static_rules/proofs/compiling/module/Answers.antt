@@ -2,8 +2,8 @@ use Rattle.std.proofs.Common.{◌≡◌, false, map, ap, ◌∙◌}
 use Rattle.std.specs.Prelude.{max}
 use Rattle.static_rules.specs.Compiling.{variable_width, function_width, greatest, compiled_variables, compiled_functions}
 use Rattle.static_rules.specs.Mentions.{callee_of}
-use Rattle.static_rules.specs.Declarations.{named_variable, named_function, with_functions, behind_variables, behind_functions}
-use Rattle.static_rules.specs.Outcomes.{named_query}
+use Rattle.query_tree.specs.NamedViews.{named_variable, named_function, named_query}
+use Rattle.static_rules.specs.Declarations.{with_functions, behind_variables, behind_functions}
 use Rattle.static_rules.specs.Sources.{behind_tree}
 use Rattle.static_rules.proofs.Made.{on-made, of-made}
 use Rattle.static_rules.proofs.Queries.{starts-alone, query-tree, query-width, query-first}

@@ -2,7 +2,8 @@ use Rattle.std.proofs.Common.{◌≡◌, ◌||◌, length, rules, ap, ◌∙◌}
 use Rattle.static_rules.specs.Views.{has_callee}
 use Rattle.static_rules.specs.Rules.{is_lines, is_built_in}
 use Rattle.static_rules.specs.Compiling.{compiled_params}
-use Rattle.static_rules.specs.Declarations.{named_function, earlier_functions, behind_params}
+use Rattle.query_tree.specs.NamedViews.{named_function}
+use Rattle.static_rules.specs.Declarations.{earlier_functions, behind_params}
 use Rattle.static_rules.proofs.DeclaredFunctions.{functions-kept, deep-enough, function-walk, function-tree}
 use Rattle.static_rules.proofs.declarations.function.Goals as goal
 

@@ -1,7 +1,7 @@
 use Rattle.std.proofs.Common.{◌≡◌, take, map}
 use Rattle.static_rules.specs.Mentions as m
 use Rattle.static_rules.specs.Stacks.{callee_of}
-use Rattle.static_rules.specs.Declarations.{named_function}
+use Rattle.query_tree.specs.NamedViews.{named_function}
 use Rattle.static_rules.proofs.declarations.known.Given as goal
 
 abbrev pub invariant-loop-part : goal.invariant-loop-part

@@ -1,4 +1,4 @@
-use Rattle.static_rules.specs.Declarations.{named_variable}
+use Rattle.query_tree.specs.NamedViews.{named_variable}
 use Rattle.static_rules.proofs.Made.{on-made, of-made}
 use Rattle.static_rules.proofs.DeclaredVariables.{variable-walk, variable-tree}
 use Rattle.static_rules.proofs.declarations.variable.Goals as goal
