@@ -12,12 +12,12 @@ use Rattle.query_tree.specs.declared.part.Term.{Term}
 use Rattle.query_tree.specs.declared.part.Factor.{Factor}
 use Rattle.query_tree.specs.declared.part.Pair.{Pair}
 use Rattle.query_tree.specs.declared.step.Step.{Step}
-use Rattle.query_tree.specs.declared.step.Lookup.{Lookup}
 use Rattle.expression_parser.specs.declared.nodes.Chain.{Chain}
 use Rattle.expression_parser.specs.declared.nodes.Chain.TheVariants as chain
 use Rattle.expression_parser.specs.declared.nodes.TypeTest.{TypeTest}
 use Rattle.expression_parser.specs.declared.nodes.TypeTest.TheVariants as test
 use Rattle.query_tree.specs.Plain as p
+use Rattle.query_tree.specs.NamedViews.{named_tree, named_step, named_operand, named_term, named_factor, source_pair}
 use Rattle.grammar_parts.specs.Parts.{Part}
 use Rattle.grammar_parts.specs.Levels.{Mode, Inner, at}
 use Rattle.grammar_parts.specs.Readers.{Reader}
@@ -40,48 +40,27 @@ reader production wide depth = (at forms production wide depth).read
 abbrev pub Named : Type 0
 Named = Expr n.Name n.Name TypeName
 
-abbrev pub tree : Named → n.Tree
-tree = p.tree_of n.Name n.Name TypeName
-
 abbrev pub boxed : Option (Box Named Global) → Option n.Tree
 boxed None = None
-boxed (Some e) = Some (tree e.value)
+boxed (Some e) = Some (named_tree e.value)
 
 abbrev pub trees : Vec Named Global → List n.Tree
-trees v = map tree v.items
-
-abbrev pub pair : Pair Named → n.Pair
-pair = p.pair_of n.Name n.Name TypeName
+trees v = map named_tree v.items
 
 abbrev pub pairs : Vec (Pair Named) Global → List n.Pair
-pairs v = map pair v.items
-
-abbrev pub step : Step n.Name Named → n.Step
-step = p.step_of n.Name n.Name TypeName
+pairs v = map source_pair v.items
 
 abbrev pub steps : Vec (Step n.Name Named) Global → List n.Step
-steps v = map step v.items
-
-abbrev pub lookup : Lookup n.Name Named → n.Lookup
-lookup = p.lookup_of n.Name n.Name TypeName
-
-abbrev pub operand : Operand Named → n.Operand
-operand = p.operand_of n.Name n.Name TypeName
+steps v = map named_step v.items
 
 abbrev pub operands : Vec (Operand Named) Global → List n.Operand
-operands v = map operand v.items
-
-abbrev pub term : Term Named → n.Term
-term = p.term_of n.Name n.Name TypeName
+operands v = map named_operand v.items
 
 abbrev pub terms : Vec (Term Named) Global → List n.Term
-terms v = map term v.items
-
-abbrev pub factor : Factor Named → n.Factor
-factor = p.factor_of n.Name n.Name TypeName
+terms v = map named_term v.items
 
 abbrev pub factors : Vec (Factor Named) Global → List n.Factor
-factors v = map factor v.items
+factors v = map named_factor v.items
 
 -- Name | Text | Var | Context | "(" Expr ")"
 abbrev pub key_part : Mode → Inner Word inside.Part n.Tree → Lang n.Lookup
@@ -97,7 +76,7 @@ type_behind word second = opt (is word) (from word (before second g.seq_type))
 
 -- a place and an expression
 abbrev pub placed_tree : ℕ × Named → ℕ × n.Tree
-placed_tree z = (z.0, tree z.1)
+placed_tree z = (z.0, named_tree z.1)
 
 abbrev pub range_end : Option (ℕ × Named) → Option (ℕ × n.Tree)
 range_end None = None
@@ -105,7 +84,7 @@ range_end (Some z) = Some (placed_tree z)
 
 -- an operator, its place and an expression
 abbrev pub compared : CompareOp × ℕ × Named → CompareOp × ℕ × n.Tree
-compared z = (z.0, z.1, tree z.2)
+compared z = (z.0, z.1, named_tree z.2)
 
 abbrev pub comparison : Option (CompareOp × ℕ × Named) → Option (CompareOp × ℕ × n.Tree)
 comparison None = None

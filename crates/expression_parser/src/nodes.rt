@@ -5,8 +5,8 @@ ghost use Rattle.std.specs.Prelude.{◌≡◌, MatchResult, Some};
 ghost use Rattle.grammar_parts.specs.declared.cursor.Stop.TheVariants.{NoMemory};
 ghost use Rattle.query_grammar.specs.Nodes as n;
 ghost use Rattle.query_tree.specs.Plain as p;
+ghost use Rattle.query_tree.specs.NamedViews.{named_tree, named_lookup, named_form};
 ghost use Rattle.expression_parser.specs.Views as view;
-ghost use Rattle.expression_parser.specs.Views.{tree};
 
 use crate::gather::{both_boxed, boxed_beside, give_up};
 use crate::values::{name_of, placed, units_in, whole_in};
@@ -41,7 +41,7 @@ pub enum TypeTest {
 /// What stands for a form of the wider grammar, whose trees are never used.
 #[tactic(auto, using(query_tree::proofs::Layers::layers))]
 pub fn unused(word: &Word) -> NamedExpr
-    ensures { tree result ≡ n.unused word.now }
+    ensures { named_tree result ≡ n.unused word.now }
 {
     Expr {
         place: word.place,
@@ -52,7 +52,7 @@ pub fn unused(word: &Word) -> NamedExpr
 #[tactic(auto, using(query_tree::proofs::Layers::layers))]
 fn text_kind(alloc: Global, word: &Word) -> Result<Kind<Str, Str, TypeName>, Stop>
     ensures { MatchResult result
-        (λ k. p.form_of n.Name n.Name TypeName k ≡ p.text_form (n.name_of word.now))
+        (λ k. named_form k ≡ p.text_form (n.name_of word.now))
         (λ e. e ≡ NoMemory) }
 {
     let value = name_of(alloc, word)?;
@@ -62,7 +62,7 @@ fn text_kind(alloc: Global, word: &Word) -> Result<Kind<Str, Str, TypeName>, Sto
 #[tactic(auto, using(query_tree::proofs::Layers::layers))]
 fn variable_kind(alloc: Global, word: &Word) -> Result<Kind<Str, Str, TypeName>, Stop>
     ensures { MatchResult result
-        (λ k. p.form_of n.Name n.Name TypeName k ≡ p.var_form (n.name_of word.now))
+        (λ k. named_form k ≡ p.var_form (n.name_of word.now))
         (λ e. e ≡ NoMemory) }
 {
     let variable = name_of(alloc, word)?;
@@ -72,7 +72,7 @@ fn variable_kind(alloc: Global, word: &Word) -> Result<Kind<Str, Str, TypeName>,
 #[tactic(auto, using(query_tree::proofs::Layers::layers))]
 fn literal_kind(alloc: Global, word: &Word) -> Result<Kind<Str, Str, TypeName>, Stop>
     ensures { MatchResult result
-        (λ k. p.form_of n.Name n.Name TypeName k ≡ n.literal_form word.now.kind word.now.value)
+        (λ k. named_form k ≡ n.literal_form word.now.kind word.now.value)
         (λ e. e ≡ NoMemory) }
 {
     match word.kind {
@@ -94,7 +94,7 @@ fn literal_kind(alloc: Global, word: &Word) -> Result<Kind<Str, Str, TypeName>, 
 /// A literal, a variable or the context item.
 #[tactic(auto, using(query_tree::proofs::Layers::layers))]
 pub fn literal(alloc: Global, word: &Word) -> Result<NamedExpr, Stop>
-    ensures { MatchResult result (λ e. tree e ≡ n.literal word.now) (λ e. e ≡ NoMemory) }
+    ensures { MatchResult result (λ e. named_tree e ≡ n.literal word.now) (λ e. e ≡ NoMemory) }
 {
     let kind = literal_kind(alloc, word)?;
     Ok(Expr {
@@ -105,7 +105,7 @@ pub fn literal(alloc: Global, word: &Word) -> Result<NamedExpr, Stop>
 
 #[tactic(auto, using(query_tree::proofs::Layers::layers))]
 pub fn call_of(alloc: Global, word: &Word, arguments: Vec<NamedExpr>) -> Result<NamedExpr, Stop>
-    ensures { MatchResult result (λ e. tree e ≡ n.call (word.now, view.trees arguments))
+    ensures { MatchResult result (λ e. named_tree e ≡ n.call (word.now, view.trees arguments))
         (λ e. e ≡ NoMemory) }
 {
     match name_of(alloc, word) {
@@ -121,7 +121,7 @@ pub fn call_of(alloc: Global, word: &Word, arguments: Vec<NamedExpr>) -> Result<
 }
 
 fn name_key(alloc: Global, word: &Word) -> Result<Lookup<Str, NamedExpr>, Stop>
-    ensures { MatchResult result (λ l. view.lookup l ≡ p.name_lookup (n.name_of word.now))
+    ensures { MatchResult result (λ l. named_lookup l ≡ p.name_lookup (n.name_of word.now))
         (λ e. e ≡ NoMemory) }
 {
     let name = name_of(alloc, word)?;
@@ -129,7 +129,7 @@ fn name_key(alloc: Global, word: &Word) -> Result<Lookup<Str, NamedExpr>, Stop>
 }
 
 fn text_key(alloc: Global, word: &Word) -> Result<Lookup<Str, NamedExpr>, Stop>
-    ensures { MatchResult result (λ l. view.lookup l ≡ p.text_lookup (n.name_of word.now))
+    ensures { MatchResult result (λ l. named_lookup l ≡ p.text_lookup (n.name_of word.now))
         (λ e. e ≡ NoMemory) }
 {
     let value = name_of(alloc, word)?;
@@ -137,7 +137,7 @@ fn text_key(alloc: Global, word: &Word) -> Result<Lookup<Str, NamedExpr>, Stop>
 }
 
 fn variable_key(alloc: Global, word: &Word) -> Result<Lookup<Str, NamedExpr>, Stop>
-    ensures { MatchResult result (λ l. view.lookup l ≡ p.var_lookup (n.placed word.now))
+    ensures { MatchResult result (λ l. named_lookup l ≡ p.var_lookup (n.placed word.now))
         (λ e. e ≡ NoMemory) }
 {
     let variable = placed(alloc, word)?;
@@ -146,7 +146,7 @@ fn variable_key(alloc: Global, word: &Word) -> Result<Lookup<Str, NamedExpr>, St
 
 /// The key of a look-up that is one token.
 pub fn plain_key(alloc: Global, word: &Word) -> Result<Lookup<Str, NamedExpr>, Stop>
-    ensures { MatchResult result (λ l. view.lookup l ≡ n.plain_key word.now) (λ e. e ≡ NoMemory) }
+    ensures { MatchResult result (λ l. named_lookup l ≡ n.plain_key word.now) (λ e. e ≡ NoMemory) }
 {
     match word.kind {
         Token::Text => text_key(alloc, word),
@@ -161,8 +161,8 @@ pub fn postfix_of(
     primary: NamedExpr,
     steps: Vec<Step<Str, NamedExpr>>,
 ) -> Result<NamedExpr, Stop>
-    ensures { MatchResult result (λ e. tree e ≡ n.postfix (tree primary, view.steps steps))
-        (λ e. e ≡ NoMemory) }
+    ensures { MatchResult result
+        (λ e. named_tree e ≡ n.postfix (named_tree primary, view.steps steps)) (λ e. e ≡ NoMemory) }
 {
     if steps.is_empty() {
         discard(steps);
@@ -182,8 +182,8 @@ fn chain_kind(
     first: Box<NamedExpr>,
     rest: Vec<Operand<NamedExpr>>,
 ) -> Kind<Str, Str, TypeName>
-    ensures { p.form_of n.Name n.Name TypeName result
-        ≡ view.form_of_chain chain (tree first.value)
+    ensures { named_form result
+        ≡ view.form_of_chain chain (named_tree first.value)
         (p.operands_of n.Name n.Name TypeName (view.operands rest)) }
 {
     match chain {
@@ -203,7 +203,8 @@ pub fn chained(
     rest: Vec<Operand<NamedExpr>>,
 ) -> Result<NamedExpr, Stop>
     ensures { MatchResult result
-        (λ e. tree e ≡ n.chain (view.form_of_chain chain) (tree first, view.operands rest))
+        (λ e.
+        named_tree e ≡ n.chain (view.form_of_chain chain) (named_tree first, view.operands rest))
         (λ e. e ≡ NoMemory) }
 {
     if rest.is_empty() {
@@ -232,7 +233,7 @@ pub fn sign_of(
     signs: Vec<(SumOp, u32)>,
     operand: NamedExpr,
 ) -> Result<NamedExpr, Stop>
-    ensures { MatchResult result (λ e. tree e ≡ n.sign (signs.items, tree operand))
+    ensures { MatchResult result (λ e. named_tree e ≡ n.sign (signs.items, named_tree operand))
         (λ e. e ≡ NoMemory) }
 {
     let Some(place) = first_place(&signs) else {
@@ -253,8 +254,7 @@ fn test_kind(
     place: u32,
     to: Placed<TypeName>,
 ) -> Kind<Str, Str, TypeName>
-    ensures { p.form_of n.Name n.Name TypeName result
-        ≡ view.form_of_test test (tree operand.value) place to }
+    ensures { named_form result ≡ view.form_of_test test (named_tree operand.value) place to }
 {
     match test {
         TypeTest::Instance => Kind::Instance {
@@ -276,7 +276,9 @@ fn typed_node(
     to: Placed<TypeName>,
 ) -> Result<NamedExpr, Stop>
     ensures { MatchResult result
-        (λ e. tree e ≡ n.node_at (tree operand) (view.form_of_test test (tree operand) place to))
+        (λ e.
+        named_tree e
+        ≡ n.node_at (named_tree operand) (view.form_of_test test (named_tree operand) place to))
         (λ e. e ≡ NoMemory) }
 {
     let first = operand.place;
@@ -295,7 +297,7 @@ pub fn typed(
     behind: Option<(u32, Placed<TypeName>)>,
 ) -> Result<NamedExpr, Stop>
     ensures { MatchResult result
-        (λ e. tree e ≡ n.typed (view.form_of_test test) (tree operand, behind))
+        (λ e. named_tree e ≡ n.typed (view.form_of_test test) (named_tree operand, behind))
         (λ e. e ≡ NoMemory) }
 {
     match behind {
@@ -309,8 +311,8 @@ pub fn product_of(
     first: NamedExpr,
     rest: Vec<Factor<NamedExpr>>,
 ) -> Result<NamedExpr, Stop>
-    ensures { MatchResult result (λ e. tree e ≡ n.product (tree first, view.factors rest))
-        (λ e. e ≡ NoMemory) }
+    ensures { MatchResult result
+        (λ e. named_tree e ≡ n.product (named_tree first, view.factors rest)) (λ e. e ≡ NoMemory) }
 {
     if rest.is_empty() {
         discard(rest);
@@ -329,7 +331,7 @@ pub fn sum_of(
     first: NamedExpr,
     rest: Vec<Term<NamedExpr>>,
 ) -> Result<NamedExpr, Stop>
-    ensures { MatchResult result (λ e. tree e ≡ n.sum (tree first, view.terms rest))
+    ensures { MatchResult result (λ e. named_tree e ≡ n.sum (named_tree first, view.terms rest))
         (λ e. e ≡ NoMemory) }
 {
     if rest.is_empty() {
@@ -351,7 +353,9 @@ fn range_node(
     right: NamedExpr,
 ) -> Result<NamedExpr, Stop>
     ensures { MatchResult result
-        (λ e. tree e ≡ n.node_at (tree left) (p.range_form (tree left) place (tree right)))
+        (λ e.
+        named_tree e
+        ≡ n.node_at (named_tree left) (p.range_form (named_tree left) place (named_tree right)))
         (λ e. e ≡ NoMemory) }
 {
     let first = left.place;
@@ -367,7 +371,7 @@ pub fn range_of(
     left: NamedExpr,
     end: Option<(u32, NamedExpr)>,
 ) -> Result<NamedExpr, Stop>
-    ensures { MatchResult result (λ e. tree e ≡ n.range (tree left, view.range_end end))
+    ensures { MatchResult result (λ e. named_tree e ≡ n.range (named_tree left, view.range_end end))
         (λ e. e ≡ NoMemory) }
 {
     match end {
@@ -384,8 +388,10 @@ fn compare_node(
     right: NamedExpr,
 ) -> Result<NamedExpr, Stop>
     ensures { MatchResult result
-        (λ e. tree e ≡ n.node_at (tree left) (p.compare_form (tree left) op place (tree right)))
-        (λ e. e ≡ NoMemory) }
+        (λ e.
+        named_tree e
+        ≡ n.node_at (named_tree left)
+        (p.compare_form (named_tree left) op place (named_tree right))) (λ e. e ≡ NoMemory) }
 {
     let first = left.place;
     let (left, right) = both_boxed(alloc, left, right)?;
@@ -405,7 +411,8 @@ pub fn compare_of(
     left: NamedExpr,
     comparison: Option<(CompareOp, u32, NamedExpr)>,
 ) -> Result<NamedExpr, Stop>
-    ensures { MatchResult result (λ e. tree e ≡ n.compare (tree left, view.comparison comparison))
+    ensures { MatchResult result
+        (λ e. named_tree e ≡ n.compare (named_tree left, view.comparison comparison))
         (λ e. e ≡ NoMemory) }
 {
     match comparison {

@@ -2,10 +2,11 @@
 
 ghost use Rattle.grammar_parts.specs.Nests.{Nests};
 ghost use Rattle.grammar_parts.specs.Reads.{ReadsAs};
+ghost use Rattle.query_tree.specs.NamedViews.{named_tree, named_operand, named_term, named_factor};
 ghost use Rattle.query_grammar.specs.Grammar as g;
 ghost use Rattle.query_grammar.specs.Grammar.{forms};
 ghost use Rattle.expression_parser.specs.Views as view;
-ghost use Rattle.expression_parser.specs.Views.{reader, tree};
+ghost use Rattle.expression_parser.specs.Views.{reader};
 
 use crate::gather::boxed;
 use crate::nodes::{
@@ -25,9 +26,9 @@ impl<F: Fn(Global, bool, usize, Part, &mut Cursor<'_, Word>) -> Result<NamedExpr
     /// `"!" Postfix`
     #[tactic(auto, unfolding(query_grammar::specs::Grammar::mapped_operand))]
     pub fn mapped_operand(&self, cursor: &mut Cursor<'_, Word>) -> Result<Operand<NamedExpr>, Stop>
-        requires { Nests forms tree self.now.wide self.now.depth (F.pre self.now.inner)
+        requires { Nests forms named_tree self.now.wide self.now.depth (F.pre self.now.inner)
             (F.post self.now.inner) }
-        ensures { ReadsAs view.operand
+        ensures { ReadsAs named_operand
             (reader g.mapped_operand self.now.wide self.now.depth cursor.old.rest.now) result
             cursor.new.rest.now }
     {
@@ -42,7 +43,7 @@ impl<F: Fn(Global, bool, usize, Part, &mut Cursor<'_, Word>) -> Result<NamedExpr
         &self,
         cursor: &mut Cursor<'_, Word>,
     ) -> Result<Vec<Operand<NamedExpr>>, Stop>
-        requires { Nests forms tree self.now.wide self.now.depth (F.pre self.now.inner)
+        requires { Nests forms named_tree self.now.wide self.now.depth (F.pre self.now.inner)
             (F.post self.now.inner) }
         ensures { ReadsAs view.operands
             (reader g.mapped_operands self.now.wide self.now.depth cursor.old.rest.now) result
@@ -54,9 +55,9 @@ impl<F: Fn(Global, bool, usize, Part, &mut Cursor<'_, Word>) -> Result<NamedExpr
     /// `Map`
     #[tactic(auto, unfolding(query_grammar::specs::Grammar::map_level))]
     pub fn map_level(&self, cursor: &mut Cursor<'_, Word>) -> Result<NamedExpr, Stop>
-        requires { Nests forms tree self.now.wide self.now.depth (F.pre self.now.inner)
+        requires { Nests forms named_tree self.now.wide self.now.depth (F.pre self.now.inner)
             (F.post self.now.inner) }
-        ensures { ReadsAs tree
+        ensures { ReadsAs named_tree
             (reader g.map_level self.now.wide self.now.depth cursor.old.rest.now) result
             cursor.new.rest.now }
     {
@@ -68,7 +69,7 @@ impl<F: Fn(Global, bool, usize, Part, &mut Cursor<'_, Word>) -> Result<NamedExpr
     /// `"+" | "-"`
     #[tactic(auto, unfolding(query_grammar::specs::Grammar::sign_mark))]
     pub fn sign_mark(&self, cursor: &mut Cursor<'_, Word>) -> Result<(SumOp, u32), Stop>
-        requires { Nests forms tree self.now.wide self.now.depth (F.pre self.now.inner)
+        requires { Nests forms named_tree self.now.wide self.now.depth (F.pre self.now.inner)
             (F.post self.now.inner) }
         ensures { ReadsAs (λ x. x)
             (reader g.sign_mark self.now.wide self.now.depth cursor.old.rest.now) result
@@ -81,7 +82,7 @@ impl<F: Fn(Global, bool, usize, Part, &mut Cursor<'_, Word>) -> Result<NamedExpr
     /// `{ "+" | "-" }`
     #[tactic(auto, unfolding(query_grammar::specs::Grammar::sign_marks))]
     pub fn sign_marks(&self, cursor: &mut Cursor<'_, Word>) -> Result<Vec<(SumOp, u32)>, Stop>
-        requires { Nests forms tree self.now.wide self.now.depth (F.pre self.now.inner)
+        requires { Nests forms named_tree self.now.wide self.now.depth (F.pre self.now.inner)
             (F.post self.now.inner) }
         ensures { ReadsAs (λ v. v.items)
             (reader g.sign_marks self.now.wide self.now.depth cursor.old.rest.now) result
@@ -93,10 +94,11 @@ impl<F: Fn(Global, bool, usize, Part, &mut Cursor<'_, Word>) -> Result<NamedExpr
     /// `Sign`
     #[tactic(auto, unfolding(query_grammar::specs::Grammar::sign))]
     pub fn sign(&self, cursor: &mut Cursor<'_, Word>) -> Result<NamedExpr, Stop>
-        requires { Nests forms tree self.now.wide self.now.depth (F.pre self.now.inner)
+        requires { Nests forms named_tree self.now.wide self.now.depth (F.pre self.now.inner)
             (F.post self.now.inner) }
-        ensures { ReadsAs tree (reader g.sign self.now.wide self.now.depth cursor.old.rest.now)
-            result cursor.new.rest.now }
+        ensures { ReadsAs named_tree
+            (reader g.sign self.now.wide self.now.depth cursor.old.rest.now) result
+            cursor.new.rest.now }
     {
         let signs = self.sign_marks(cursor)?;
         let operand = or_give_up!(signs, self.map_level(cursor));
@@ -143,10 +145,11 @@ impl<F: Fn(Global, bool, usize, Part, &mut Cursor<'_, Word>) -> Result<NamedExpr
     /// `Cast`
     #[tactic(auto, unfolding(query_grammar::specs::Grammar::cast, query_grammar::specs::Grammar::cast_type))]
     pub fn cast(&self, cursor: &mut Cursor<'_, Word>) -> Result<NamedExpr, Stop>
-        requires { Nests forms tree self.now.wide self.now.depth (F.pre self.now.inner)
+        requires { Nests forms named_tree self.now.wide self.now.depth (F.pre self.now.inner)
             (F.post self.now.inner) }
-        ensures { ReadsAs tree (reader g.cast self.now.wide self.now.depth cursor.old.rest.now)
-            result cursor.new.rest.now }
+        ensures { ReadsAs named_tree
+            (reader g.cast self.now.wide self.now.depth cursor.old.rest.now) result
+            cursor.new.rest.now }
     {
         let operand = self.sign(cursor)?;
         let to = or_give_up!(operand, self.single_behind(Kind::Cast, cursor));
@@ -156,9 +159,9 @@ impl<F: Fn(Global, bool, usize, Part, &mut Cursor<'_, Word>) -> Result<NamedExpr
     /// `Castable`
     #[tactic(auto, unfolding(query_grammar::specs::Grammar::castable, query_grammar::specs::Grammar::castable_type))]
     pub fn castable(&self, cursor: &mut Cursor<'_, Word>) -> Result<NamedExpr, Stop>
-        requires { Nests forms tree self.now.wide self.now.depth (F.pre self.now.inner)
+        requires { Nests forms named_tree self.now.wide self.now.depth (F.pre self.now.inner)
             (F.post self.now.inner) }
-        ensures { ReadsAs tree
+        ensures { ReadsAs named_tree
             (reader g.castable self.now.wide self.now.depth cursor.old.rest.now) result
             cursor.new.rest.now }
     {
@@ -170,10 +173,11 @@ impl<F: Fn(Global, bool, usize, Part, &mut Cursor<'_, Word>) -> Result<NamedExpr
     /// `Treat`
     #[tactic(auto, unfolding(query_grammar::specs::Grammar::treat, query_grammar::specs::Grammar::treat_type))]
     pub fn treat(&self, cursor: &mut Cursor<'_, Word>) -> Result<NamedExpr, Stop>
-        requires { Nests forms tree self.now.wide self.now.depth (F.pre self.now.inner)
+        requires { Nests forms named_tree self.now.wide self.now.depth (F.pre self.now.inner)
             (F.post self.now.inner) }
-        ensures { ReadsAs tree (reader g.treat self.now.wide self.now.depth cursor.old.rest.now)
-            result cursor.new.rest.now }
+        ensures { ReadsAs named_tree
+            (reader g.treat self.now.wide self.now.depth cursor.old.rest.now) result
+            cursor.new.rest.now }
     {
         let operand = self.castable(cursor)?;
         let to = or_give_up!(operand, self.type_behind(Kind::Treat, Kind::As, cursor));
@@ -183,9 +187,9 @@ impl<F: Fn(Global, bool, usize, Part, &mut Cursor<'_, Word>) -> Result<NamedExpr
     /// `Instance`
     #[tactic(auto, unfolding(query_grammar::specs::Grammar::instance, query_grammar::specs::Grammar::instance_type))]
     pub fn instance(&self, cursor: &mut Cursor<'_, Word>) -> Result<NamedExpr, Stop>
-        requires { Nests forms tree self.now.wide self.now.depth (F.pre self.now.inner)
+        requires { Nests forms named_tree self.now.wide self.now.depth (F.pre self.now.inner)
             (F.post self.now.inner) }
-        ensures { ReadsAs tree
+        ensures { ReadsAs named_tree
             (reader g.instance self.now.wide self.now.depth cursor.old.rest.now) result
             cursor.new.rest.now }
     {
@@ -197,9 +201,9 @@ impl<F: Fn(Global, bool, usize, Part, &mut Cursor<'_, Word>) -> Result<NamedExpr
     /// `( "*" | "div" | "idiv" | "mod" ) Instance`
     #[tactic(auto, unfolding(query_grammar::specs::Grammar::factor))]
     pub fn factor(&self, cursor: &mut Cursor<'_, Word>) -> Result<Factor<NamedExpr>, Stop>
-        requires { Nests forms tree self.now.wide self.now.depth (F.pre self.now.inner)
+        requires { Nests forms named_tree self.now.wide self.now.depth (F.pre self.now.inner)
             (F.post self.now.inner) }
-        ensures { ReadsAs view.factor
+        ensures { ReadsAs named_factor
             (reader g.factor self.now.wide self.now.depth cursor.old.rest.now) result
             cursor.new.rest.now }
     {
@@ -215,7 +219,7 @@ impl<F: Fn(Global, bool, usize, Part, &mut Cursor<'_, Word>) -> Result<NamedExpr
     /// The further factors.
     #[tactic(auto, unfolding(query_grammar::specs::Grammar::factors))]
     pub fn factors(&self, cursor: &mut Cursor<'_, Word>) -> Result<Vec<Factor<NamedExpr>>, Stop>
-        requires { Nests forms tree self.now.wide self.now.depth (F.pre self.now.inner)
+        requires { Nests forms named_tree self.now.wide self.now.depth (F.pre self.now.inner)
             (F.post self.now.inner) }
         ensures { ReadsAs view.factors
             (reader g.factors self.now.wide self.now.depth cursor.old.rest.now) result
@@ -227,10 +231,11 @@ impl<F: Fn(Global, bool, usize, Part, &mut Cursor<'_, Word>) -> Result<NamedExpr
     /// `Product`
     #[tactic(auto, unfolding(query_grammar::specs::Grammar::product))]
     pub fn product(&self, cursor: &mut Cursor<'_, Word>) -> Result<NamedExpr, Stop>
-        requires { Nests forms tree self.now.wide self.now.depth (F.pre self.now.inner)
+        requires { Nests forms named_tree self.now.wide self.now.depth (F.pre self.now.inner)
             (F.post self.now.inner) }
-        ensures { ReadsAs tree (reader g.product self.now.wide self.now.depth cursor.old.rest.now)
-            result cursor.new.rest.now }
+        ensures { ReadsAs named_tree
+            (reader g.product self.now.wide self.now.depth cursor.old.rest.now) result
+            cursor.new.rest.now }
     {
         let first = self.instance(cursor)?;
         let rest = or_give_up!(first, self.factors(cursor));
@@ -240,9 +245,9 @@ impl<F: Fn(Global, bool, usize, Part, &mut Cursor<'_, Word>) -> Result<NamedExpr
     /// `( "+" | "-" ) Product`
     #[tactic(auto, unfolding(query_grammar::specs::Grammar::term))]
     pub fn term(&self, cursor: &mut Cursor<'_, Word>) -> Result<Term<NamedExpr>, Stop>
-        requires { Nests forms tree self.now.wide self.now.depth (F.pre self.now.inner)
+        requires { Nests forms named_tree self.now.wide self.now.depth (F.pre self.now.inner)
             (F.post self.now.inner) }
-        ensures { ReadsAs view.term
+        ensures { ReadsAs named_term
             (reader g.term self.now.wide self.now.depth cursor.old.rest.now) result
             cursor.new.rest.now }
     {
@@ -258,7 +263,7 @@ impl<F: Fn(Global, bool, usize, Part, &mut Cursor<'_, Word>) -> Result<NamedExpr
     /// The further terms.
     #[tactic(auto, unfolding(query_grammar::specs::Grammar::terms))]
     pub fn terms(&self, cursor: &mut Cursor<'_, Word>) -> Result<Vec<Term<NamedExpr>>, Stop>
-        requires { Nests forms tree self.now.wide self.now.depth (F.pre self.now.inner)
+        requires { Nests forms named_tree self.now.wide self.now.depth (F.pre self.now.inner)
             (F.post self.now.inner) }
         ensures { ReadsAs view.terms
             (reader g.terms self.now.wide self.now.depth cursor.old.rest.now) result
@@ -270,9 +275,9 @@ impl<F: Fn(Global, bool, usize, Part, &mut Cursor<'_, Word>) -> Result<NamedExpr
     /// `Sum`
     #[tactic(auto, unfolding(query_grammar::specs::Grammar::sum))]
     pub fn sum(&self, cursor: &mut Cursor<'_, Word>) -> Result<NamedExpr, Stop>
-        requires { Nests forms tree self.now.wide self.now.depth (F.pre self.now.inner)
+        requires { Nests forms named_tree self.now.wide self.now.depth (F.pre self.now.inner)
             (F.post self.now.inner) }
-        ensures { ReadsAs tree (reader g.sum self.now.wide self.now.depth cursor.old.rest.now)
+        ensures { ReadsAs named_tree (reader g.sum self.now.wide self.now.depth cursor.old.rest.now)
             result cursor.new.rest.now }
     {
         let first = self.product(cursor)?;
@@ -283,7 +288,7 @@ impl<F: Fn(Global, bool, usize, Part, &mut Cursor<'_, Word>) -> Result<NamedExpr
     /// `[ "to" Sum ]`
     #[tactic(auto, unfolding(query_grammar::specs::Grammar::range_end))]
     pub fn range_end(&self, cursor: &mut Cursor<'_, Word>) -> Result<Option<(u32, NamedExpr)>, Stop>
-        requires { Nests forms tree self.now.wide self.now.depth (F.pre self.now.inner)
+        requires { Nests forms named_tree self.now.wide self.now.depth (F.pre self.now.inner)
             (F.post self.now.inner) }
         ensures { ReadsAs view.range_end
             (reader g.range_end self.now.wide self.now.depth cursor.old.rest.now) result
@@ -300,10 +305,11 @@ impl<F: Fn(Global, bool, usize, Part, &mut Cursor<'_, Word>) -> Result<NamedExpr
     /// `Range`
     #[tactic(auto, unfolding(query_grammar::specs::Grammar::range))]
     pub fn range(&self, cursor: &mut Cursor<'_, Word>) -> Result<NamedExpr, Stop>
-        requires { Nests forms tree self.now.wide self.now.depth (F.pre self.now.inner)
+        requires { Nests forms named_tree self.now.wide self.now.depth (F.pre self.now.inner)
             (F.post self.now.inner) }
-        ensures { ReadsAs tree (reader g.range self.now.wide self.now.depth cursor.old.rest.now)
-            result cursor.new.rest.now }
+        ensures { ReadsAs named_tree
+            (reader g.range self.now.wide self.now.depth cursor.old.rest.now) result
+            cursor.new.rest.now }
     {
         let left = self.sum(cursor)?;
         let right = or_give_up!(left, self.range_end(cursor));
@@ -313,9 +319,9 @@ impl<F: Fn(Global, bool, usize, Part, &mut Cursor<'_, Word>) -> Result<NamedExpr
     /// `"||" Range`
     #[tactic(auto, unfolding(query_grammar::specs::Grammar::concat_operand))]
     pub fn concat_operand(&self, cursor: &mut Cursor<'_, Word>) -> Result<Operand<NamedExpr>, Stop>
-        requires { Nests forms tree self.now.wide self.now.depth (F.pre self.now.inner)
+        requires { Nests forms named_tree self.now.wide self.now.depth (F.pre self.now.inner)
             (F.post self.now.inner) }
-        ensures { ReadsAs view.operand
+        ensures { ReadsAs named_operand
             (reader g.concat_operand self.now.wide self.now.depth cursor.old.rest.now) result
             cursor.new.rest.now }
     {
@@ -330,7 +336,7 @@ impl<F: Fn(Global, bool, usize, Part, &mut Cursor<'_, Word>) -> Result<NamedExpr
         &self,
         cursor: &mut Cursor<'_, Word>,
     ) -> Result<Vec<Operand<NamedExpr>>, Stop>
-        requires { Nests forms tree self.now.wide self.now.depth (F.pre self.now.inner)
+        requires { Nests forms named_tree self.now.wide self.now.depth (F.pre self.now.inner)
             (F.post self.now.inner) }
         ensures { ReadsAs view.operands
             (reader g.concat_operands self.now.wide self.now.depth cursor.old.rest.now) result
@@ -342,10 +348,11 @@ impl<F: Fn(Global, bool, usize, Part, &mut Cursor<'_, Word>) -> Result<NamedExpr
     /// `Concat`
     #[tactic(auto, unfolding(query_grammar::specs::Grammar::concat))]
     pub fn concat(&self, cursor: &mut Cursor<'_, Word>) -> Result<NamedExpr, Stop>
-        requires { Nests forms tree self.now.wide self.now.depth (F.pre self.now.inner)
+        requires { Nests forms named_tree self.now.wide self.now.depth (F.pre self.now.inner)
             (F.post self.now.inner) }
-        ensures { ReadsAs tree (reader g.concat self.now.wide self.now.depth cursor.old.rest.now)
-            result cursor.new.rest.now }
+        ensures { ReadsAs named_tree
+            (reader g.concat self.now.wide self.now.depth cursor.old.rest.now) result
+            cursor.new.rest.now }
     {
         let first = self.range(cursor)?;
         let rest = or_give_up!(first, self.concat_operands(cursor));
@@ -358,7 +365,7 @@ impl<F: Fn(Global, bool, usize, Part, &mut Cursor<'_, Word>) -> Result<NamedExpr
         &self,
         cursor: &mut Cursor<'_, Word>,
     ) -> Result<(CompareOp, u32, NamedExpr), Stop>
-        requires { Nests forms tree self.now.wide self.now.depth (F.pre self.now.inner)
+        requires { Nests forms named_tree self.now.wide self.now.depth (F.pre self.now.inner)
             (F.post self.now.inner) }
         ensures { ReadsAs view.compared
             (reader g.compared self.now.wide self.now.depth cursor.old.rest.now) result
@@ -375,7 +382,7 @@ impl<F: Fn(Global, bool, usize, Part, &mut Cursor<'_, Word>) -> Result<NamedExpr
         &self,
         cursor: &mut Cursor<'_, Word>,
     ) -> Result<Option<(CompareOp, u32, NamedExpr)>, Stop>
-        requires { Nests forms tree self.now.wide self.now.depth (F.pre self.now.inner)
+        requires { Nests forms named_tree self.now.wide self.now.depth (F.pre self.now.inner)
             (F.post self.now.inner) }
         ensures { ReadsAs view.comparison
             (reader g.comparison self.now.wide self.now.depth cursor.old.rest.now) result
@@ -391,10 +398,11 @@ impl<F: Fn(Global, bool, usize, Part, &mut Cursor<'_, Word>) -> Result<NamedExpr
     /// `Compare`
     #[tactic(auto, unfolding(query_grammar::specs::Grammar::compare))]
     pub fn compare(&self, cursor: &mut Cursor<'_, Word>) -> Result<NamedExpr, Stop>
-        requires { Nests forms tree self.now.wide self.now.depth (F.pre self.now.inner)
+        requires { Nests forms named_tree self.now.wide self.now.depth (F.pre self.now.inner)
             (F.post self.now.inner) }
-        ensures { ReadsAs tree (reader g.compare self.now.wide self.now.depth cursor.old.rest.now)
-            result cursor.new.rest.now }
+        ensures { ReadsAs named_tree
+            (reader g.compare self.now.wide self.now.depth cursor.old.rest.now) result
+            cursor.new.rest.now }
     {
         let left = self.concat(cursor)?;
         let right = or_give_up!(left, self.comparison(cursor));
@@ -404,9 +412,9 @@ impl<F: Fn(Global, bool, usize, Part, &mut Cursor<'_, Word>) -> Result<NamedExpr
     /// `Not`
     #[tactic(auto, using(query_tree::proofs::Layers::layers), unfolding(query_grammar::specs::Grammar::not_level))]
     pub fn not_level(&self, cursor: &mut Cursor<'_, Word>) -> Result<NamedExpr, Stop>
-        requires { Nests forms tree self.now.wide self.now.depth (F.pre self.now.inner)
+        requires { Nests forms named_tree self.now.wide self.now.depth (F.pre self.now.inner)
             (F.post self.now.inner) }
-        ensures { ReadsAs tree
+        ensures { ReadsAs named_tree
             (reader g.not_level self.now.wide self.now.depth cursor.old.rest.now) result
             cursor.new.rest.now }
     {
@@ -424,9 +432,9 @@ impl<F: Fn(Global, bool, usize, Part, &mut Cursor<'_, Word>) -> Result<NamedExpr
     /// `"and" Not`
     #[tactic(auto, unfolding(query_grammar::specs::Grammar::and_operand))]
     pub fn and_operand(&self, cursor: &mut Cursor<'_, Word>) -> Result<Operand<NamedExpr>, Stop>
-        requires { Nests forms tree self.now.wide self.now.depth (F.pre self.now.inner)
+        requires { Nests forms named_tree self.now.wide self.now.depth (F.pre self.now.inner)
             (F.post self.now.inner) }
-        ensures { ReadsAs view.operand
+        ensures { ReadsAs named_operand
             (reader g.and_operand self.now.wide self.now.depth cursor.old.rest.now) result
             cursor.new.rest.now }
     {
@@ -441,7 +449,7 @@ impl<F: Fn(Global, bool, usize, Part, &mut Cursor<'_, Word>) -> Result<NamedExpr
         &self,
         cursor: &mut Cursor<'_, Word>,
     ) -> Result<Vec<Operand<NamedExpr>>, Stop>
-        requires { Nests forms tree self.now.wide self.now.depth (F.pre self.now.inner)
+        requires { Nests forms named_tree self.now.wide self.now.depth (F.pre self.now.inner)
             (F.post self.now.inner) }
         ensures { ReadsAs view.operands
             (reader g.and_operands self.now.wide self.now.depth cursor.old.rest.now) result
@@ -453,9 +461,9 @@ impl<F: Fn(Global, bool, usize, Part, &mut Cursor<'_, Word>) -> Result<NamedExpr
     /// `And`
     #[tactic(auto, unfolding(query_grammar::specs::Grammar::and_level))]
     pub fn and_level(&self, cursor: &mut Cursor<'_, Word>) -> Result<NamedExpr, Stop>
-        requires { Nests forms tree self.now.wide self.now.depth (F.pre self.now.inner)
+        requires { Nests forms named_tree self.now.wide self.now.depth (F.pre self.now.inner)
             (F.post self.now.inner) }
-        ensures { ReadsAs tree
+        ensures { ReadsAs named_tree
             (reader g.and_level self.now.wide self.now.depth cursor.old.rest.now) result
             cursor.new.rest.now }
     {
@@ -467,9 +475,9 @@ impl<F: Fn(Global, bool, usize, Part, &mut Cursor<'_, Word>) -> Result<NamedExpr
     /// `"or" And`
     #[tactic(auto, unfolding(query_grammar::specs::Grammar::or_operand))]
     pub fn or_operand(&self, cursor: &mut Cursor<'_, Word>) -> Result<Operand<NamedExpr>, Stop>
-        requires { Nests forms tree self.now.wide self.now.depth (F.pre self.now.inner)
+        requires { Nests forms named_tree self.now.wide self.now.depth (F.pre self.now.inner)
             (F.post self.now.inner) }
-        ensures { ReadsAs view.operand
+        ensures { ReadsAs named_operand
             (reader g.or_operand self.now.wide self.now.depth cursor.old.rest.now) result
             cursor.new.rest.now }
     {
@@ -484,7 +492,7 @@ impl<F: Fn(Global, bool, usize, Part, &mut Cursor<'_, Word>) -> Result<NamedExpr
         &self,
         cursor: &mut Cursor<'_, Word>,
     ) -> Result<Vec<Operand<NamedExpr>>, Stop>
-        requires { Nests forms tree self.now.wide self.now.depth (F.pre self.now.inner)
+        requires { Nests forms named_tree self.now.wide self.now.depth (F.pre self.now.inner)
             (F.post self.now.inner) }
         ensures { ReadsAs view.operands
             (reader g.or_operands self.now.wide self.now.depth cursor.old.rest.now) result
@@ -496,9 +504,9 @@ impl<F: Fn(Global, bool, usize, Part, &mut Cursor<'_, Word>) -> Result<NamedExpr
     /// `Or`
     #[tactic(auto, unfolding(query_grammar::specs::Grammar::or_level))]
     pub fn or_level(&self, cursor: &mut Cursor<'_, Word>) -> Result<NamedExpr, Stop>
-        requires { Nests forms tree self.now.wide self.now.depth (F.pre self.now.inner)
+        requires { Nests forms named_tree self.now.wide self.now.depth (F.pre self.now.inner)
             (F.post self.now.inner) }
-        ensures { ReadsAs tree
+        ensures { ReadsAs named_tree
             (reader g.or_level self.now.wide self.now.depth cursor.old.rest.now) result
             cursor.new.rest.now }
     {

@@ -3,12 +3,12 @@
 ghost use Rattle.std.specs.Prelude.{◌≡◌, ◌<◌};
 ghost use Rattle.grammar_parts.specs.Levels.{inside};
 ghost use Rattle.grammar_parts.specs.Reads.{ReadsAs};
+ghost use Rattle.query_tree.specs.NamedViews.{named_tree};
 ghost use Rattle.query_grammar.specs.Grammar.{forms};
 ghost use Rattle.grammar_parts.specs.Nests.{Nests};
 ghost use Rattle.query_grammar.specs.Named.{class_of};
 ghost use Rattle.query_grammar.specs.Classes.{single_first, pair_first, argument_first};
 ghost use Rattle.grammar_parts.specs.Levels.{room_in};
-ghost use Rattle.expression_parser.specs.Views.{tree};
 
 use grammar_parts::{Cursor, Stop};
 use query_grammar::{Class, Part, Word};
@@ -61,9 +61,9 @@ impl<F: Fn(Global, bool, usize, Part, &mut Cursor<'_, Word>) -> Result<NamedExpr
     /// Reads a part that stands inside a form.
     #[tactic(auto, unfolding(grammar_parts::specs::Levels::inside))]
     pub fn inside(&self, part: Part, cursor: &mut Cursor<'_, Word>) -> Result<NamedExpr, Stop>
-        requires nests { Nests forms tree self.now.wide self.now.depth (F.pre self.now.inner)
+        requires nests { Nests forms named_tree self.now.wide self.now.depth (F.pre self.now.inner)
             (F.post self.now.inner) }
-        ensures { ReadsAs tree
+        ensures { ReadsAs named_tree
             ((inside forms self.now.wide self.now.depth part).read cursor.old.rest.now) result
             cursor.new.rest.now }
     {

@@ -2,10 +2,11 @@
 
 ghost use Rattle.grammar_parts.specs.Nests.{Nests};
 ghost use Rattle.grammar_parts.specs.Reads.{ReadsAs};
+ghost use Rattle.query_tree.specs.NamedViews.{named_tree, source_pair};
 ghost use Rattle.query_grammar.specs.Grammar as g;
 ghost use Rattle.query_grammar.specs.Grammar.{forms};
 ghost use Rattle.expression_parser.specs.Views as view;
-ghost use Rattle.expression_parser.specs.Views.{reader, tree};
+ghost use Rattle.expression_parser.specs.Views.{reader};
 
 use crate::gather::boxed;
 use crate::nodes::{call_of, literal, unused};
@@ -20,10 +21,11 @@ impl<F: Fn(Global, bool, usize, Part, &mut Cursor<'_, Word>) -> Result<NamedExpr
     /// `Int | Dec | Text | True | False | Null | Var | Context`
     #[tactic(auto, using(query_tree::proofs::Layers::layers), unfolding(query_grammar::specs::Grammar::literal))]
     pub fn literal(&self, cursor: &mut Cursor<'_, Word>) -> Result<NamedExpr, Stop>
-        requires { Nests forms tree self.now.wide self.now.depth (F.pre self.now.inner)
+        requires { Nests forms named_tree self.now.wide self.now.depth (F.pre self.now.inner)
             (F.post self.now.inner) }
-        ensures { ReadsAs tree (reader g.literal self.now.wide self.now.depth cursor.old.rest.now)
-            result cursor.new.rest.now }
+        ensures { ReadsAs named_tree
+            (reader g.literal self.now.wide self.now.depth cursor.old.rest.now) result
+            cursor.new.rest.now }
     {
         let word = cursor.expect(Class::Literal { wide: self.wide })?;
         literal(self.alloc, word)
@@ -32,9 +34,9 @@ impl<F: Fn(Global, bool, usize, Part, &mut Cursor<'_, Word>) -> Result<NamedExpr
     /// `"(" Expr ")"`
     #[tactic(auto, unfolding(query_grammar::specs::Grammar::in_parens))]
     pub fn in_parens(&self, cursor: &mut Cursor<'_, Word>) -> Result<NamedExpr, Stop>
-        requires { Nests forms tree self.now.wide self.now.depth (F.pre self.now.inner)
+        requires { Nests forms named_tree self.now.wide self.now.depth (F.pre self.now.inner)
             (F.post self.now.inner) }
-        ensures { ReadsAs tree
+        ensures { ReadsAs named_tree
             (reader g.in_parens self.now.wide self.now.depth cursor.old.rest.now) result
             cursor.new.rest.now }
     {
@@ -47,9 +49,9 @@ impl<F: Fn(Global, bool, usize, Part, &mut Cursor<'_, Word>) -> Result<NamedExpr
     /// `"{" Expr "}"`
     #[tactic(auto, unfolding(query_grammar::specs::Grammar::in_braces))]
     pub fn in_braces(&self, cursor: &mut Cursor<'_, Word>) -> Result<NamedExpr, Stop>
-        requires { Nests forms tree self.now.wide self.now.depth (F.pre self.now.inner)
+        requires { Nests forms named_tree self.now.wide self.now.depth (F.pre self.now.inner)
             (F.post self.now.inner) }
-        ensures { ReadsAs tree
+        ensures { ReadsAs named_tree
             (reader g.in_braces self.now.wide self.now.depth cursor.old.rest.now) result
             cursor.new.rest.now }
     {
@@ -62,7 +64,7 @@ impl<F: Fn(Global, bool, usize, Part, &mut Cursor<'_, Word>) -> Result<NamedExpr
     /// `[ Expr ]`
     #[tactic(auto, unfolding(query_grammar::specs::Grammar::content))]
     pub fn content(&self, cursor: &mut Cursor<'_, Word>) -> Result<Option<Box<NamedExpr>>, Stop>
-        requires { Nests forms tree self.now.wide self.now.depth (F.pre self.now.inner)
+        requires { Nests forms named_tree self.now.wide self.now.depth (F.pre self.now.inner)
             (F.post self.now.inner) }
         ensures { ReadsAs view.boxed
             (reader g.content self.now.wide self.now.depth cursor.old.rest.now) result
@@ -78,10 +80,11 @@ impl<F: Fn(Global, bool, usize, Part, &mut Cursor<'_, Word>) -> Result<NamedExpr
     /// `"(" [ Expr ] ")"`
     #[tactic(auto, using(query_tree::proofs::Layers::layers), unfolding(query_grammar::specs::Grammar::paren))]
     pub fn paren(&self, cursor: &mut Cursor<'_, Word>) -> Result<NamedExpr, Stop>
-        requires { Nests forms tree self.now.wide self.now.depth (F.pre self.now.inner)
+        requires { Nests forms named_tree self.now.wide self.now.depth (F.pre self.now.inner)
             (F.post self.now.inner) }
-        ensures { ReadsAs tree (reader g.paren self.now.wide self.now.depth cursor.old.rest.now)
-            result cursor.new.rest.now }
+        ensures { ReadsAs named_tree
+            (reader g.paren self.now.wide self.now.depth cursor.old.rest.now) result
+            cursor.new.rest.now }
     {
         if self.depth == 0 {
             return Err(Stop::Refused);
@@ -98,10 +101,11 @@ impl<F: Fn(Global, bool, usize, Part, &mut Cursor<'_, Word>) -> Result<NamedExpr
     /// `"{|" [ Expr ] "|}"`
     #[tactic(auto, using(query_tree::proofs::Layers::layers), unfolding(query_grammar::specs::Grammar::merge))]
     pub fn merge(&self, cursor: &mut Cursor<'_, Word>) -> Result<NamedExpr, Stop>
-        requires { Nests forms tree self.now.wide self.now.depth (F.pre self.now.inner)
+        requires { Nests forms named_tree self.now.wide self.now.depth (F.pre self.now.inner)
             (F.post self.now.inner) }
-        ensures { ReadsAs tree (reader g.merge self.now.wide self.now.depth cursor.old.rest.now)
-            result cursor.new.rest.now }
+        ensures { ReadsAs named_tree
+            (reader g.merge self.now.wide self.now.depth cursor.old.rest.now) result
+            cursor.new.rest.now }
     {
         if self.depth == 0 {
             return Err(Stop::Refused);
@@ -118,10 +122,11 @@ impl<F: Fn(Global, bool, usize, Part, &mut Cursor<'_, Word>) -> Result<NamedExpr
     /// `"[" [ Expr ] "]"`
     #[tactic(auto, using(query_tree::proofs::Layers::layers), unfolding(query_grammar::specs::Grammar::array))]
     pub fn array(&self, cursor: &mut Cursor<'_, Word>) -> Result<NamedExpr, Stop>
-        requires { Nests forms tree self.now.wide self.now.depth (F.pre self.now.inner)
+        requires { Nests forms named_tree self.now.wide self.now.depth (F.pre self.now.inner)
             (F.post self.now.inner) }
-        ensures { ReadsAs tree (reader g.array self.now.wide self.now.depth cursor.old.rest.now)
-            result cursor.new.rest.now }
+        ensures { ReadsAs named_tree
+            (reader g.array self.now.wide self.now.depth cursor.old.rest.now) result
+            cursor.new.rest.now }
     {
         if self.depth == 0 {
             return Err(Stop::Refused);
@@ -138,9 +143,9 @@ impl<F: Fn(Global, bool, usize, Part, &mut Cursor<'_, Word>) -> Result<NamedExpr
     /// `( Name | Single ) ":"`, where a name that `:` follows is a name, and then `Single`.
     #[tactic(auto, unfolding(query_grammar::specs::Grammar::pair, query_grammar::specs::Grammar::pair_key, query_grammar::specs::Grammar::name_key, query_grammar::specs::Grammar::computed_key))]
     pub fn pair(&self, cursor: &mut Cursor<'_, Word>) -> Result<Pair<NamedExpr>, Stop>
-        requires { Nests forms tree self.now.wide self.now.depth (F.pre self.now.inner)
+        requires { Nests forms named_tree self.now.wide self.now.depth (F.pre self.now.inner)
             (F.post self.now.inner) }
-        ensures { ReadsAs view.pair
+        ensures { ReadsAs source_pair
             (reader g.pair self.now.wide self.now.depth cursor.old.rest.now) result
             cursor.new.rest.now }
     {
@@ -164,7 +169,7 @@ impl<F: Fn(Global, bool, usize, Part, &mut Cursor<'_, Word>) -> Result<NamedExpr
     /// `Pair { "," Pair }`
     #[tactic(auto, unfolding(query_grammar::specs::Grammar::pair_list))]
     pub fn pair_list(&self, cursor: &mut Cursor<'_, Word>) -> Result<Vec<Pair<NamedExpr>>, Stop>
-        requires { Nests forms tree self.now.wide self.now.depth (F.pre self.now.inner)
+        requires { Nests forms named_tree self.now.wide self.now.depth (F.pre self.now.inner)
             (F.post self.now.inner) }
         ensures { ReadsAs view.pairs
             (reader g.pair_list self.now.wide self.now.depth cursor.old.rest.now) result
@@ -176,7 +181,7 @@ impl<F: Fn(Global, bool, usize, Part, &mut Cursor<'_, Word>) -> Result<NamedExpr
     /// `[ Pair { "," Pair } ]`
     #[tactic(auto, unfolding(query_grammar::specs::Grammar::pairs))]
     pub fn pairs(&self, cursor: &mut Cursor<'_, Word>) -> Result<Vec<Pair<NamedExpr>>, Stop>
-        requires { Nests forms tree self.now.wide self.now.depth (F.pre self.now.inner)
+        requires { Nests forms named_tree self.now.wide self.now.depth (F.pre self.now.inner)
             (F.post self.now.inner) }
         ensures { ReadsAs view.pairs
             (reader g.pairs self.now.wide self.now.depth cursor.old.rest.now) result
@@ -191,10 +196,11 @@ impl<F: Fn(Global, bool, usize, Part, &mut Cursor<'_, Word>) -> Result<NamedExpr
     /// `Object`
     #[tactic(auto, using(query_tree::proofs::Layers::layers), unfolding(query_grammar::specs::Grammar::object))]
     pub fn object(&self, cursor: &mut Cursor<'_, Word>) -> Result<NamedExpr, Stop>
-        requires { Nests forms tree self.now.wide self.now.depth (F.pre self.now.inner)
+        requires { Nests forms named_tree self.now.wide self.now.depth (F.pre self.now.inner)
             (F.post self.now.inner) }
-        ensures { ReadsAs tree (reader g.object self.now.wide self.now.depth cursor.old.rest.now)
-            result cursor.new.rest.now }
+        ensures { ReadsAs named_tree
+            (reader g.object self.now.wide self.now.depth cursor.old.rest.now) result
+            cursor.new.rest.now }
     {
         if self.depth == 0 {
             return Err(Stop::Refused);
@@ -211,9 +217,9 @@ impl<F: Fn(Global, bool, usize, Part, &mut Cursor<'_, Word>) -> Result<NamedExpr
     /// An argument; the wider grammar also has `?`.
     #[tactic(auto, unfolding(query_grammar::specs::Grammar::argument))]
     pub fn argument(&self, cursor: &mut Cursor<'_, Word>) -> Result<NamedExpr, Stop>
-        requires { Nests forms tree self.now.wide self.now.depth (F.pre self.now.inner)
+        requires { Nests forms named_tree self.now.wide self.now.depth (F.pre self.now.inner)
             (F.post self.now.inner) }
-        ensures { ReadsAs tree
+        ensures { ReadsAs named_tree
             (reader g.argument self.now.wide self.now.depth cursor.old.rest.now) result
             cursor.new.rest.now }
     {
@@ -230,7 +236,7 @@ impl<F: Fn(Global, bool, usize, Part, &mut Cursor<'_, Word>) -> Result<NamedExpr
     /// `Single { "," Single }`
     #[tactic(auto, unfolding(query_grammar::specs::Grammar::argument_list))]
     pub fn argument_list(&self, cursor: &mut Cursor<'_, Word>) -> Result<Vec<NamedExpr>, Stop>
-        requires { Nests forms tree self.now.wide self.now.depth (F.pre self.now.inner)
+        requires { Nests forms named_tree self.now.wide self.now.depth (F.pre self.now.inner)
             (F.post self.now.inner) }
         ensures { ReadsAs view.trees
             (reader g.argument_list self.now.wide self.now.depth cursor.old.rest.now) result
@@ -242,7 +248,7 @@ impl<F: Fn(Global, bool, usize, Part, &mut Cursor<'_, Word>) -> Result<NamedExpr
     /// `[ Single { "," Single } ]`
     #[tactic(auto, unfolding(query_grammar::specs::Grammar::some_arguments))]
     pub fn some_arguments(&self, cursor: &mut Cursor<'_, Word>) -> Result<Vec<NamedExpr>, Stop>
-        requires { Nests forms tree self.now.wide self.now.depth (F.pre self.now.inner)
+        requires { Nests forms named_tree self.now.wide self.now.depth (F.pre self.now.inner)
             (F.post self.now.inner) }
         ensures { ReadsAs view.trees
             (reader g.some_arguments self.now.wide self.now.depth cursor.old.rest.now) result
@@ -257,7 +263,7 @@ impl<F: Fn(Global, bool, usize, Part, &mut Cursor<'_, Word>) -> Result<NamedExpr
     /// `"(" [ Single { "," Single } ] ")"`
     #[tactic(auto, unfolding(query_grammar::specs::Grammar::arguments))]
     pub fn arguments(&self, cursor: &mut Cursor<'_, Word>) -> Result<Vec<NamedExpr>, Stop>
-        requires { Nests forms tree self.now.wide self.now.depth (F.pre self.now.inner)
+        requires { Nests forms named_tree self.now.wide self.now.depth (F.pre self.now.inner)
             (F.post self.now.inner) }
         ensures { ReadsAs view.trees
             (reader g.arguments self.now.wide self.now.depth cursor.old.rest.now) result
@@ -272,7 +278,7 @@ impl<F: Fn(Global, bool, usize, Part, &mut Cursor<'_, Word>) -> Result<NamedExpr
     /// `"#" Int`, in the wider grammar.
     #[tactic(auto, unfolding(query_grammar::specs::Grammar::arity))]
     pub fn arity(&self, cursor: &mut Cursor<'_, Word>) -> Result<Vec<NamedExpr>, Stop>
-        requires { Nests forms tree self.now.wide self.now.depth (F.pre self.now.inner)
+        requires { Nests forms named_tree self.now.wide self.now.depth (F.pre self.now.inner)
             (F.post self.now.inner) }
         ensures { ReadsAs view.trees
             (reader g.arity self.now.wide self.now.depth cursor.old.rest.now) result
@@ -289,10 +295,11 @@ impl<F: Fn(Global, bool, usize, Part, &mut Cursor<'_, Word>) -> Result<NamedExpr
     /// `Call`
     #[tactic(auto, unfolding(query_grammar::specs::Grammar::call))]
     pub fn call(&self, cursor: &mut Cursor<'_, Word>) -> Result<NamedExpr, Stop>
-        requires { Nests forms tree self.now.wide self.now.depth (F.pre self.now.inner)
+        requires { Nests forms named_tree self.now.wide self.now.depth (F.pre self.now.inner)
             (F.post self.now.inner) }
-        ensures { ReadsAs tree (reader g.call self.now.wide self.now.depth cursor.old.rest.now)
-            result cursor.new.rest.now }
+        ensures { ReadsAs named_tree
+            (reader g.call self.now.wide self.now.depth cursor.old.rest.now) result
+            cursor.new.rest.now }
     {
         if self.depth == 0 {
             return Err(Stop::Refused);
@@ -309,9 +316,9 @@ impl<F: Fn(Global, bool, usize, Part, &mut Cursor<'_, Word>) -> Result<NamedExpr
     /// `"function" "("`, in the wider grammar.
     #[tactic(auto, unfolding(query_grammar::specs::Grammar::inline_function))]
     pub fn inline_function(&self, cursor: &mut Cursor<'_, Word>) -> Result<NamedExpr, Stop>
-        requires { Nests forms tree self.now.wide self.now.depth (F.pre self.now.inner)
+        requires { Nests forms named_tree self.now.wide self.now.depth (F.pre self.now.inner)
             (F.post self.now.inner) }
-        ensures { ReadsAs tree
+        ensures { ReadsAs named_tree
             (reader g.inline_function self.now.wide self.now.depth cursor.old.rest.now) result
             cursor.new.rest.now }
     {
@@ -326,10 +333,11 @@ impl<F: Fn(Global, bool, usize, Part, &mut Cursor<'_, Word>) -> Result<NamedExpr
     /// A primary expression.
     #[tactic(auto, unfolding(query_grammar::specs::Grammar::primary))]
     pub fn primary(&self, cursor: &mut Cursor<'_, Word>) -> Result<NamedExpr, Stop>
-        requires { Nests forms tree self.now.wide self.now.depth (F.pre self.now.inner)
+        requires { Nests forms named_tree self.now.wide self.now.depth (F.pre self.now.inner)
             (F.post self.now.inner) }
-        ensures { ReadsAs tree (reader g.primary self.now.wide self.now.depth cursor.old.rest.now)
-            result cursor.new.rest.now }
+        ensures { ReadsAs named_tree
+            (reader g.primary self.now.wide self.now.depth cursor.old.rest.now) result
+            cursor.new.rest.now }
     {
         let room = self.depth > 0;
         if cursor.sees(Class::Literal { wide: self.wide }) {

@@ -3,10 +3,11 @@
 ghost use Rattle.grammar_parts.specs.Readers.{read_mapped};
 ghost use Rattle.grammar_parts.specs.Nests.{Nests};
 ghost use Rattle.grammar_parts.specs.Reads.{ReadsAs};
+ghost use Rattle.query_tree.specs.NamedViews.{named_tree, named_step, named_lookup};
 ghost use Rattle.query_grammar.specs.Grammar as g;
 ghost use Rattle.query_grammar.specs.Grammar.{forms};
 ghost use Rattle.expression_parser.specs.Views as view;
-ghost use Rattle.expression_parser.specs.Views.{reader, tree};
+ghost use Rattle.expression_parser.specs.Views.{reader};
 
 use crate::nodes::{plain_key, postfix_of};
 use crate::parts::Parts;
@@ -24,9 +25,9 @@ impl<F: Fn(Global, bool, usize, Part, &mut Cursor<'_, Word>) -> Result<NamedExpr
         place: u32,
         cursor: &mut Cursor<'_, Word>,
     ) -> Result<Step<Str, NamedExpr>, Stop>
-        requires { Nests forms tree self.now.wide self.now.depth (F.pre self.now.inner)
+        requires { Nests forms named_tree self.now.wide self.now.depth (F.pre self.now.inner)
             (F.post self.now.inner) }
-        ensures { ReadsAs (λ s. view.step s)
+        ensures { ReadsAs (λ s. named_step s)
             (read_mapped (λ f. f place) (reader g.member self.now.wide self.now.depth)
             cursor.old.rest.now) result cursor.new.rest.now }
     {
@@ -47,9 +48,9 @@ impl<F: Fn(Global, bool, usize, Part, &mut Cursor<'_, Word>) -> Result<NamedExpr
         place: u32,
         cursor: &mut Cursor<'_, Word>,
     ) -> Result<Step<Str, NamedExpr>, Stop>
-        requires { Nests forms tree self.now.wide self.now.depth (F.pre self.now.inner)
+        requires { Nests forms named_tree self.now.wide self.now.depth (F.pre self.now.inner)
             (F.post self.now.inner) }
-        ensures { ReadsAs (λ s. view.step s)
+        ensures { ReadsAs (λ s. named_step s)
             (read_mapped (λ f. f place) (reader g.filter self.now.wide self.now.depth)
             cursor.old.rest.now) result cursor.new.rest.now }
     {
@@ -64,9 +65,9 @@ impl<F: Fn(Global, bool, usize, Part, &mut Cursor<'_, Word>) -> Result<NamedExpr
     /// `"[" "]" | "[" "[" Expr "]" "]" | "[" Expr "]"`
     #[tactic(auto, unfolding(query_grammar::specs::Grammar::bracket_step, query_grammar::specs::Grammar::members))]
     fn bracket_step(&self, cursor: &mut Cursor<'_, Word>) -> Result<Step<Str, NamedExpr>, Stop>
-        requires { Nests forms tree self.now.wide self.now.depth (F.pre self.now.inner)
+        requires { Nests forms named_tree self.now.wide self.now.depth (F.pre self.now.inner)
             (F.post self.now.inner) }
-        ensures { ReadsAs view.step
+        ensures { ReadsAs named_step
             (reader g.bracket_step self.now.wide self.now.depth cursor.old.rest.now) result
             cursor.new.rest.now }
     {
@@ -85,9 +86,9 @@ impl<F: Fn(Global, bool, usize, Part, &mut Cursor<'_, Word>) -> Result<NamedExpr
     /// `Name | Text | Var | Context | "(" Expr ")"`
     #[tactic(auto, unfolding(query_grammar::specs::Grammar::plain_key, query_grammar::specs::Grammar::computed_lookup))]
     fn key(&self, cursor: &mut Cursor<'_, Word>) -> Result<Lookup<Str, NamedExpr>, Stop>
-        requires { Nests forms tree self.now.wide self.now.depth (F.pre self.now.inner)
+        requires { Nests forms named_tree self.now.wide self.now.depth (F.pre self.now.inner)
             (F.post self.now.inner) }
-        ensures { ReadsAs view.lookup
+        ensures { ReadsAs named_lookup
             (reader view.key_part self.now.wide self.now.depth cursor.old.rest.now) result
             cursor.new.rest.now }
     {
@@ -105,9 +106,9 @@ impl<F: Fn(Global, bool, usize, Part, &mut Cursor<'_, Word>) -> Result<NamedExpr
     /// `"." ( Name | Text | Var | Context | "(" Expr ")" )`
     #[tactic(auto, unfolding(query_grammar::specs::Grammar::field_step))]
     fn field_step(&self, cursor: &mut Cursor<'_, Word>) -> Result<Step<Str, NamedExpr>, Stop>
-        requires { Nests forms tree self.now.wide self.now.depth (F.pre self.now.inner)
+        requires { Nests forms named_tree self.now.wide self.now.depth (F.pre self.now.inner)
             (F.post self.now.inner) }
-        ensures { ReadsAs view.step
+        ensures { ReadsAs named_step
             (reader g.field_step self.now.wide self.now.depth cursor.old.rest.now) result
             cursor.new.rest.now }
     {
@@ -119,9 +120,9 @@ impl<F: Fn(Global, bool, usize, Part, &mut Cursor<'_, Word>) -> Result<NamedExpr
     /// `"("`, in the wider grammar.
     #[tactic(auto, unfolding(query_grammar::specs::Grammar::call_step))]
     pub fn call_step(&self, cursor: &mut Cursor<'_, Word>) -> Result<Step<Str, NamedExpr>, Stop>
-        requires { Nests forms tree self.now.wide self.now.depth (F.pre self.now.inner)
+        requires { Nests forms named_tree self.now.wide self.now.depth (F.pre self.now.inner)
             (F.post self.now.inner) }
-        ensures { ReadsAs view.step
+        ensures { ReadsAs named_step
             (reader g.call_step self.now.wide self.now.depth cursor.old.rest.now) result
             cursor.new.rest.now }
     {
@@ -135,9 +136,9 @@ impl<F: Fn(Global, bool, usize, Part, &mut Cursor<'_, Word>) -> Result<NamedExpr
     /// `Step`
     #[tactic(auto, unfolding(query_grammar::specs::Grammar::step))]
     pub fn step(&self, cursor: &mut Cursor<'_, Word>) -> Result<Step<Str, NamedExpr>, Stop>
-        requires { Nests forms tree self.now.wide self.now.depth (F.pre self.now.inner)
+        requires { Nests forms named_tree self.now.wide self.now.depth (F.pre self.now.inner)
             (F.post self.now.inner) }
-        ensures { ReadsAs view.step
+        ensures { ReadsAs named_step
             (reader g.step self.now.wide self.now.depth cursor.old.rest.now) result
             cursor.new.rest.now }
     {
@@ -153,7 +154,7 @@ impl<F: Fn(Global, bool, usize, Part, &mut Cursor<'_, Word>) -> Result<NamedExpr
     /// `{ Step }`
     #[tactic(auto, unfolding(query_grammar::specs::Grammar::steps))]
     pub fn steps(&self, cursor: &mut Cursor<'_, Word>) -> Result<Vec<Step<Str, NamedExpr>>, Stop>
-        requires { Nests forms tree self.now.wide self.now.depth (F.pre self.now.inner)
+        requires { Nests forms named_tree self.now.wide self.now.depth (F.pre self.now.inner)
             (F.post self.now.inner) }
         ensures { ReadsAs view.steps
             (reader g.steps self.now.wide self.now.depth cursor.old.rest.now) result
@@ -170,10 +171,11 @@ impl<F: Fn(Global, bool, usize, Part, &mut Cursor<'_, Word>) -> Result<NamedExpr
     /// `Postfix`
     #[tactic(auto, unfolding(query_grammar::specs::Grammar::postfix))]
     pub fn postfix(&self, cursor: &mut Cursor<'_, Word>) -> Result<NamedExpr, Stop>
-        requires { Nests forms tree self.now.wide self.now.depth (F.pre self.now.inner)
+        requires { Nests forms named_tree self.now.wide self.now.depth (F.pre self.now.inner)
             (F.post self.now.inner) }
-        ensures { ReadsAs tree (reader g.postfix self.now.wide self.now.depth cursor.old.rest.now)
-            result cursor.new.rest.now }
+        ensures { ReadsAs named_tree
+            (reader g.postfix self.now.wide self.now.depth cursor.old.rest.now) result
+            cursor.new.rest.now }
     {
         let primary = self.primary(cursor)?;
         let steps = or_give_up!(primary, self.steps(cursor));

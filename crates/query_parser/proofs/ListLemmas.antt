@@ -10,8 +10,7 @@ use Rattle.grammar_parts.specs.Reads.{ReadsAs}
 use Rattle.grammar_parts.specs.Turns.{Call, Listed, Performs}
 use Rattle.grammar_parts.proofs.TurnLemmas.{list_reads_plainly, read_behind}
 use Rattle.query_grammar.specs.Nodes as n
-use Rattle.query_tree.specs.declared.names.TypeName.{TypeName}
-use Rattle.query_tree.specs.Modules.{variable_of, function_of}
+use Rattle.query_tree.specs.NamedViews.{named_variable, named_function}
 use Rattle.query_parser.specs.declared.modules.Declared.{Declared}
 use Rattle.query_parser.specs.declared.modules.Declared.TheVariants as declared
 use Rattle.query_parser.specs.Views as view
@@ -55,15 +54,15 @@ module _ {V F : Type 0} where
   pub functions_all : (found all : List F) (left : List (Declared V F)) → left ≡ [] → found ++ view.functions_of left ≡ all → found ≡ all
   functions_all found all left e h = sym (append-nil found) ∙ subst (λ (l : List (Declared V F)). found ++ view.functions_of l ≡ all) e h
 
-pub variables_seen : (ds : List view.Declaration) → map (variable_of n.Name n.Name TypeName) (view.variables_of ds) ≡ n.variables_in (map view.declaration ds)
+pub variables_seen : (ds : List view.Declaration) → map (named_variable) (view.variables_of ds) ≡ n.variables_in (map view.declaration ds)
 variables_seen [] = refl
-variables_seen (declared.Variable x ∷ ds) = ap (λ l. variable_of n.Name n.Name TypeName x ∷ l) (variables_seen ds)
+variables_seen (declared.Variable x ∷ ds) = ap (λ l. named_variable x ∷ l) (variables_seen ds)
 variables_seen (declared.Function x ∷ ds) = variables_seen ds
 
-pub functions_seen : (ds : List view.Declaration) → map (function_of n.Name n.Name TypeName) (view.functions_of ds) ≡ n.functions_in (map view.declaration ds)
+pub functions_seen : (ds : List view.Declaration) → map (named_function) (view.functions_of ds) ≡ n.functions_in (map view.declaration ds)
 functions_seen [] = refl
 functions_seen (declared.Variable x ∷ ds) = functions_seen ds
-functions_seen (declared.Function x ∷ ds) = ap (λ l. function_of n.Name n.Name TypeName x ∷ l) (functions_seen ds)
+functions_seen (declared.Function x ∷ ds) = ap (λ l. named_function x ∷ l) (functions_seen ds)
 
 -- ---- items with another value
 

@@ -10,13 +10,11 @@ use Rattle.query_tree.specs.declared.part.Bind.{Bind}
 use Rattle.query_tree.specs.declared.part.Case.{Case}
 use Rattle.query_tree.specs.declared.part.TypeCase.{TypeCase}
 use Rattle.query_tree.specs.declared.part.Catch.{Catch}
-use Rattle.query_tree.specs.declared.module.Module.{Module}
-use Rattle.query_tree.specs.Plain as p
-use Rattle.query_tree.specs.Modules as modules
 use Rattle.query_parser.specs.declared.modules.Declared.{Declared}
 use Rattle.query_parser.specs.declared.modules.Declared.TheVariants as declared
 use Rattle.query_tree.specs.declared.module.Variable.{Variable}
 use Rattle.query_tree.specs.declared.module.Function.{Function}
+use Rattle.query_tree.specs.NamedViews.{named_tree, named_clause, named_group_var, named_order_key, named_bind, named_case, named_type_case, named_catch, named_variable, named_function}
 use Rattle.grammar_parts.specs.Parts.{Part}
 use Rattle.grammar_parts.specs.Levels.{Mode, Inner, mode_at, level}
 use Rattle.grammar_parts.specs.Readers.{Reader}
@@ -28,18 +26,15 @@ use Rattle.query_grammar.specs.Nodes as n
 use Rattle.query_grammar.specs.Languages.{Lang, mapped, seq, before, from}
 use Rattle.query_grammar.specs.Grammar as g
 use Rattle.query_grammar.specs.Grammar.{forms}
-use Rattle.expression_parser.specs.Views.{Named, tree}
+use Rattle.expression_parser.specs.Views.{Named}
 
 -- ---- clauses
 
 abbrev pub NamedClause : Type 0
 NamedClause = Clause n.Name n.Name TypeName
 
-abbrev pub clause : NamedClause → n.Clause
-clause = p.clause_of n.Name n.Name TypeName
-
 abbrev pub clauses : Vec NamedClause Global → List n.Clause
-clauses v = map clause v.items
+clauses v = map named_clause v.items
 
 -- clauses and the place of the keyword before them
 abbrev pub placed_clauses : ℕ × Vec NamedClause Global → ℕ × List n.Clause
@@ -48,47 +43,29 @@ placed_clauses z = (z.0, clauses z.1)
 abbrev pub clause_lists : Vec (Vec NamedClause Global) Global → List (List n.Clause)
 clause_lists v = map clauses v.items
 
-abbrev pub group_var : GroupVar n.Name Named → n.GroupVar
-group_var = p.group_var_of n.Name n.Name TypeName
-
 abbrev pub group_vars : Vec (GroupVar n.Name Named) Global → List n.GroupVar
-group_vars v = map group_var v.items
-
-abbrev pub order_key : OrderKey Named → n.OrderKey
-order_key = p.order_key_of n.Name n.Name TypeName
+group_vars v = map named_group_var v.items
 
 abbrev pub order_keys : Vec (OrderKey Named) Global → List n.OrderKey
-order_keys v = map order_key v.items
+order_keys v = map named_order_key v.items
 
 -- ---- statements
 
-abbrev pub bind : Bind n.Name TypeName Named → n.Bind
-bind = p.bind_of n.Name n.Name TypeName
-
 abbrev pub binds : Vec (Bind n.Name TypeName Named) Global → List n.Bind
-binds v = map bind v.items
-
-abbrev pub case : Case Named → n.Case
-case = p.case_of n.Name n.Name TypeName
+binds v = map named_bind v.items
 
 abbrev pub cases : Vec (Case Named) Global → List n.Case
-cases v = map case v.items
-
-abbrev pub type_case : TypeCase n.Name TypeName Named → n.TypeCase
-type_case = p.type_case_of n.Name n.Name TypeName
+cases v = map named_case v.items
 
 abbrev pub type_cases : Vec (TypeCase n.Name TypeName Named) Global → List n.TypeCase
-type_cases v = map type_case v.items
+type_cases v = map named_type_case v.items
 
 -- the variable of a default and its result
 abbrev pub type_default : Option (Placed n.Name) × Named → Option (Placed n.Name) × n.Tree
-type_default z = (z.0, tree z.1)
-
-abbrev pub catch : Catch n.Name Named → n.Catch
-catch = p.catch_of n.Name n.Name TypeName
+type_default z = (z.0, named_tree z.1)
 
 abbrev pub catches : Vec (Catch n.Name Named) Global → List n.Catch
-catches v = map catch v.items
+catches v = map named_catch v.items
 
 -- the names of codes; none stand for all codes
 abbrev pub codes : Option (Vec n.Name Global) → Option (List n.Name)
@@ -136,11 +113,8 @@ abbrev pub Declaration : Type 0
 Declaration = Declared (Variable n.Name n.Name TypeName) (Function n.Name n.Name TypeName)
 
 abbrev pub declaration : Declaration → n.Declaration
-declaration (declared.Variable x) = n.of_variable (modules.variable_of n.Name n.Name TypeName x)
-declaration (declared.Function x) = n.of_function (modules.function_of n.Name n.Name TypeName x)
+declaration (declared.Variable x) = n.of_variable (named_variable x)
+declaration (declared.Function x) = n.of_function (named_function x)
 
 abbrev pub declarations : Vec Declaration Global → List n.Declaration
 declarations v = map declaration v.items
-
-abbrev pub module_of : Module n.Name n.Name TypeName → n.Module
-module_of = modules.module_of n.Name n.Name TypeName

@@ -2,9 +2,10 @@
 
 ghost use Rattle.grammar_parts.specs.Nests.{Nests};
 ghost use Rattle.grammar_parts.specs.Reads.{ReadsAs};
+ghost use Rattle.query_tree.specs.NamedViews.{named_tree, named_clause, named_group_var, named_order_key};
 ghost use Rattle.query_grammar.specs.Grammar as g;
 ghost use Rattle.query_grammar.specs.Grammar.{forms};
-ghost use Rattle.expression_parser.specs.Views.{reader, tree};
+ghost use Rattle.expression_parser.specs.Views.{reader};
 ghost use Rattle.query_parser.specs.Views as view;
 
 use crate::nodes::{NamedClause, count_of, for_of, group_of, keep_of, let_of, order_of};
@@ -29,7 +30,7 @@ impl<F: Fn(Global, bool, usize, Part, &mut Cursor<'_, Word>) -> Result<NamedExpr
     /// `[ "allowing" "empty" ]`
     #[tactic(auto, unfolding(query_grammar::specs::Grammar::allowing))]
     pub fn allowing(&self, cursor: &mut Cursor<'_, Word>) -> Result<bool, Stop>
-        requires { Nests forms tree self.now.parts.wide self.now.parts.depth
+        requires { Nests forms named_tree self.now.parts.wide self.now.parts.depth
             (F.pre self.now.parts.inner) (F.post self.now.parts.inner) }
         ensures { ReadsAs (λ x. x)
             (reader g.allowing self.now.parts.wide self.now.parts.depth cursor.old.rest.now)
@@ -46,7 +47,7 @@ impl<F: Fn(Global, bool, usize, Part, &mut Cursor<'_, Word>) -> Result<NamedExpr
     /// `[ "at" Var ]`
     #[tactic(auto, unfolding(query_grammar::specs::Grammar::at_variable))]
     pub fn at_variable(&self, cursor: &mut Cursor<'_, Word>) -> Result<Option<Placed<Str>>, Stop>
-        requires { Nests forms tree self.now.parts.wide self.now.parts.depth
+        requires { Nests forms named_tree self.now.parts.wide self.now.parts.depth
             (F.pre self.now.parts.inner) (F.post self.now.parts.inner) }
         ensures { ReadsAs (λ x. x)
             (reader g.at_variable self.now.parts.wide self.now.parts.depth cursor.old.rest.now)
@@ -63,9 +64,9 @@ impl<F: Fn(Global, bool, usize, Part, &mut Cursor<'_, Word>) -> Result<NamedExpr
     /// `ForVar`
     #[tactic(auto, unfolding(query_grammar::specs::Grammar::for_var))]
     pub fn for_var(&self, cursor: &mut Cursor<'_, Word>) -> Result<NamedClause, Stop>
-        requires { Nests forms tree self.now.parts.wide self.now.parts.depth
+        requires { Nests forms named_tree self.now.parts.wide self.now.parts.depth
             (F.pre self.now.parts.inner) (F.post self.now.parts.inner) }
-        ensures { ReadsAs view.clause
+        ensures { ReadsAs named_clause
             (reader g.for_var self.now.parts.wide self.now.parts.depth cursor.old.rest.now) result
             cursor.new.rest.now }
     {
@@ -81,7 +82,7 @@ impl<F: Fn(Global, bool, usize, Part, &mut Cursor<'_, Word>) -> Result<NamedExpr
     /// `ForVar { "," ForVar }`
     #[tactic(auto, unfolding(query_grammar::specs::Grammar::for_vars))]
     pub fn for_vars(&self, cursor: &mut Cursor<'_, Word>) -> Result<Vec<NamedClause>, Stop>
-        requires { Nests forms tree self.now.parts.wide self.now.parts.depth
+        requires { Nests forms named_tree self.now.parts.wide self.now.parts.depth
             (F.pre self.now.parts.inner) (F.post self.now.parts.inner) }
         ensures { ReadsAs view.clauses
             (reader g.for_vars self.now.parts.wide self.now.parts.depth cursor.old.rest.now)
@@ -93,7 +94,7 @@ impl<F: Fn(Global, bool, usize, Part, &mut Cursor<'_, Word>) -> Result<NamedExpr
     /// `"tumbling" | "sliding"`, in the wider grammar.
     #[tactic(auto, unfolding(query_grammar::specs::Grammar::window))]
     pub fn window(&self, cursor: &mut Cursor<'_, Word>) -> Result<Vec<NamedClause>, Stop>
-        requires { Nests forms tree self.now.parts.wide self.now.parts.depth
+        requires { Nests forms named_tree self.now.parts.wide self.now.parts.depth
             (F.pre self.now.parts.inner) (F.post self.now.parts.inner) }
         ensures { ReadsAs view.clauses
             (reader g.window self.now.parts.wide self.now.parts.depth cursor.old.rest.now) result
@@ -109,7 +110,7 @@ impl<F: Fn(Global, bool, usize, Part, &mut Cursor<'_, Word>) -> Result<NamedExpr
     /// `For`
     #[tactic(auto, unfolding(query_grammar::specs::Grammar::for_clause))]
     pub fn for_clause(&self, cursor: &mut Cursor<'_, Word>) -> Result<(u32, Vec<NamedClause>), Stop>
-        requires { Nests forms tree self.now.parts.wide self.now.parts.depth
+        requires { Nests forms named_tree self.now.parts.wide self.now.parts.depth
             (F.pre self.now.parts.inner) (F.post self.now.parts.inner) }
         ensures { ReadsAs view.placed_clauses
             (reader g.for_clause self.now.parts.wide self.now.parts.depth cursor.old.rest.now)
@@ -127,9 +128,9 @@ impl<F: Fn(Global, bool, usize, Part, &mut Cursor<'_, Word>) -> Result<NamedExpr
     /// `LetVar`
     #[tactic(auto, unfolding(query_grammar::specs::Grammar::let_var))]
     pub fn let_var(&self, cursor: &mut Cursor<'_, Word>) -> Result<NamedClause, Stop>
-        requires { Nests forms tree self.now.parts.wide self.now.parts.depth
+        requires { Nests forms named_tree self.now.parts.wide self.now.parts.depth
             (F.pre self.now.parts.inner) (F.post self.now.parts.inner) }
-        ensures { ReadsAs view.clause
+        ensures { ReadsAs named_clause
             (reader g.let_var self.now.parts.wide self.now.parts.depth cursor.old.rest.now) result
             cursor.new.rest.now }
     {
@@ -143,7 +144,7 @@ impl<F: Fn(Global, bool, usize, Part, &mut Cursor<'_, Word>) -> Result<NamedExpr
     /// `LetVar { "," LetVar }`
     #[tactic(auto, unfolding(query_grammar::specs::Grammar::let_vars))]
     pub fn let_vars(&self, cursor: &mut Cursor<'_, Word>) -> Result<Vec<NamedClause>, Stop>
-        requires { Nests forms tree self.now.parts.wide self.now.parts.depth
+        requires { Nests forms named_tree self.now.parts.wide self.now.parts.depth
             (F.pre self.now.parts.inner) (F.post self.now.parts.inner) }
         ensures { ReadsAs view.clauses
             (reader g.let_vars self.now.parts.wide self.now.parts.depth cursor.old.rest.now)
@@ -158,7 +159,7 @@ impl<F: Fn(Global, bool, usize, Part, &mut Cursor<'_, Word>) -> Result<NamedExpr
         &self,
         cursor: &mut Cursor<'_, Word>,
     ) -> Result<(u32, Vec<NamedClause>), Stop>
-        requires { Nests forms tree self.now.parts.wide self.now.parts.depth
+        requires { Nests forms named_tree self.now.parts.wide self.now.parts.depth
             (F.pre self.now.parts.inner) (F.post self.now.parts.inner) }
         ensures { ReadsAs view.placed_clauses
             (reader g.first_clause self.now.parts.wide self.now.parts.depth cursor.old.rest.now)
@@ -175,9 +176,9 @@ impl<F: Fn(Global, bool, usize, Part, &mut Cursor<'_, Word>) -> Result<NamedExpr
     /// `Keep`
     #[tactic(auto, unfolding(query_grammar::specs::Grammar::keep_clause))]
     pub fn keep_clause(&self, cursor: &mut Cursor<'_, Word>) -> Result<NamedClause, Stop>
-        requires { Nests forms tree self.now.parts.wide self.now.parts.depth
+        requires { Nests forms named_tree self.now.parts.wide self.now.parts.depth
             (F.pre self.now.parts.inner) (F.post self.now.parts.inner) }
-        ensures { ReadsAs view.clause
+        ensures { ReadsAs named_clause
             (reader g.keep_clause self.now.parts.wide self.now.parts.depth cursor.old.rest.now)
             result cursor.new.rest.now }
     {
@@ -189,9 +190,9 @@ impl<F: Fn(Global, bool, usize, Part, &mut Cursor<'_, Word>) -> Result<NamedExpr
     /// `GroupVar`
     #[tactic(auto, unfolding(query_grammar::specs::Grammar::group_var, query_grammar::specs::Grammar::group_value))]
     pub fn group_var(&self, cursor: &mut Cursor<'_, Word>) -> Result<GroupVar<Str, NamedExpr>, Stop>
-        requires { Nests forms tree self.now.parts.wide self.now.parts.depth
+        requires { Nests forms named_tree self.now.parts.wide self.now.parts.depth
             (F.pre self.now.parts.inner) (F.post self.now.parts.inner) }
-        ensures { ReadsAs view.group_var
+        ensures { ReadsAs named_group_var
             (reader g.group_var self.now.parts.wide self.now.parts.depth cursor.old.rest.now)
             result cursor.new.rest.now }
     {
@@ -210,7 +211,7 @@ impl<F: Fn(Global, bool, usize, Part, &mut Cursor<'_, Word>) -> Result<NamedExpr
         &self,
         cursor: &mut Cursor<'_, Word>,
     ) -> Result<Vec<GroupVar<Str, NamedExpr>>, Stop>
-        requires { Nests forms tree self.now.parts.wide self.now.parts.depth
+        requires { Nests forms named_tree self.now.parts.wide self.now.parts.depth
             (F.pre self.now.parts.inner) (F.post self.now.parts.inner) }
         ensures { ReadsAs view.group_vars
             (reader g.group_vars self.now.parts.wide self.now.parts.depth cursor.old.rest.now)
@@ -227,9 +228,9 @@ impl<F: Fn(Global, bool, usize, Part, &mut Cursor<'_, Word>) -> Result<NamedExpr
     /// `Group`
     #[tactic(auto, unfolding(query_grammar::specs::Grammar::group_clause))]
     pub fn group_clause(&self, cursor: &mut Cursor<'_, Word>) -> Result<NamedClause, Stop>
-        requires { Nests forms tree self.now.parts.wide self.now.parts.depth
+        requires { Nests forms named_tree self.now.parts.wide self.now.parts.depth
             (F.pre self.now.parts.inner) (F.post self.now.parts.inner) }
-        ensures { ReadsAs view.clause
+        ensures { ReadsAs named_clause
             (reader g.group_clause self.now.parts.wide self.now.parts.depth cursor.old.rest.now)
             result cursor.new.rest.now }
     {
@@ -242,7 +243,7 @@ impl<F: Fn(Global, bool, usize, Part, &mut Cursor<'_, Word>) -> Result<NamedExpr
     /// `[ "empty" ( "least" | "greatest" ) ]`, whether the empty value is put above all.
     #[tactic(auto, unfolding(query_grammar::specs::Grammar::empty_order))]
     pub fn empty_order(&self, cursor: &mut Cursor<'_, Word>) -> Result<bool, Stop>
-        requires { Nests forms tree self.now.parts.wide self.now.parts.depth
+        requires { Nests forms named_tree self.now.parts.wide self.now.parts.depth
             (F.pre self.now.parts.inner) (F.post self.now.parts.inner) }
         ensures { ReadsAs (λ x. x)
             (reader g.empty_order self.now.parts.wide self.now.parts.depth cursor.old.rest.now)
@@ -259,9 +260,9 @@ impl<F: Fn(Global, bool, usize, Part, &mut Cursor<'_, Word>) -> Result<NamedExpr
     /// `Key`
     #[tactic(auto, unfolding(query_grammar::specs::Grammar::order_key, query_grammar::specs::Grammar::direction))]
     pub fn order_key(&self, cursor: &mut Cursor<'_, Word>) -> Result<OrderKey<NamedExpr>, Stop>
-        requires { Nests forms tree self.now.parts.wide self.now.parts.depth
+        requires { Nests forms named_tree self.now.parts.wide self.now.parts.depth
             (F.pre self.now.parts.inner) (F.post self.now.parts.inner) }
-        ensures { ReadsAs view.order_key
+        ensures { ReadsAs named_order_key
             (reader g.order_key self.now.parts.wide self.now.parts.depth cursor.old.rest.now)
             result cursor.new.rest.now }
     {
@@ -289,7 +290,7 @@ impl<F: Fn(Global, bool, usize, Part, &mut Cursor<'_, Word>) -> Result<NamedExpr
         &self,
         cursor: &mut Cursor<'_, Word>,
     ) -> Result<Vec<OrderKey<NamedExpr>>, Stop>
-        requires { Nests forms tree self.now.parts.wide self.now.parts.depth
+        requires { Nests forms named_tree self.now.parts.wide self.now.parts.depth
             (F.pre self.now.parts.inner) (F.post self.now.parts.inner) }
         ensures { ReadsAs view.order_keys
             (reader g.order_list self.now.parts.wide self.now.parts.depth cursor.old.rest.now)
@@ -309,7 +310,7 @@ impl<F: Fn(Global, bool, usize, Part, &mut Cursor<'_, Word>) -> Result<NamedExpr
         &self,
         cursor: &mut Cursor<'_, Word>,
     ) -> Result<Vec<OrderKey<NamedExpr>>, Stop>
-        requires { Nests forms tree self.now.parts.wide self.now.parts.depth
+        requires { Nests forms named_tree self.now.parts.wide self.now.parts.depth
             (F.pre self.now.parts.inner) (F.post self.now.parts.inner) }
         ensures { ReadsAs view.order_keys
             (reader g.order_keys self.now.parts.wide self.now.parts.depth cursor.old.rest.now)
@@ -322,9 +323,9 @@ impl<F: Fn(Global, bool, usize, Part, &mut Cursor<'_, Word>) -> Result<NamedExpr
     /// `Order`
     #[tactic(auto, unfolding(query_grammar::specs::Grammar::order_clause))]
     pub fn order_clause(&self, cursor: &mut Cursor<'_, Word>) -> Result<NamedClause, Stop>
-        requires { Nests forms tree self.now.parts.wide self.now.parts.depth
+        requires { Nests forms named_tree self.now.parts.wide self.now.parts.depth
             (F.pre self.now.parts.inner) (F.post self.now.parts.inner) }
-        ensures { ReadsAs view.clause
+        ensures { ReadsAs named_clause
             (reader g.order_clause self.now.parts.wide self.now.parts.depth cursor.old.rest.now)
             result cursor.new.rest.now }
     {
@@ -342,9 +343,9 @@ impl<F: Fn(Global, bool, usize, Part, &mut Cursor<'_, Word>) -> Result<NamedExpr
     /// `Count`
     #[tactic(auto, unfolding(query_grammar::specs::Grammar::count_clause))]
     pub fn count_clause(&self, cursor: &mut Cursor<'_, Word>) -> Result<NamedClause, Stop>
-        requires { Nests forms tree self.now.parts.wide self.now.parts.depth
+        requires { Nests forms named_tree self.now.parts.wide self.now.parts.depth
             (F.pre self.now.parts.inner) (F.post self.now.parts.inner) }
-        ensures { ReadsAs view.clause
+        ensures { ReadsAs named_clause
             (reader g.count_clause self.now.parts.wide self.now.parts.depth cursor.old.rest.now)
             result cursor.new.rest.now }
     {
@@ -356,9 +357,9 @@ impl<F: Fn(Global, bool, usize, Part, &mut Cursor<'_, Word>) -> Result<NamedExpr
     /// `Keep | Group | Order | Count`
     #[tactic(auto, unfolding(query_grammar::specs::Grammar::one_clause))]
     pub fn one_clause(&self, cursor: &mut Cursor<'_, Word>) -> Result<NamedClause, Stop>
-        requires { Nests forms tree self.now.parts.wide self.now.parts.depth
+        requires { Nests forms named_tree self.now.parts.wide self.now.parts.depth
             (F.pre self.now.parts.inner) (F.post self.now.parts.inner) }
-        ensures { ReadsAs view.clause
+        ensures { ReadsAs named_clause
             (reader g.one_clause self.now.parts.wide self.now.parts.depth cursor.old.rest.now)
             result cursor.new.rest.now }
     {
@@ -376,7 +377,7 @@ impl<F: Fn(Global, bool, usize, Part, &mut Cursor<'_, Word>) -> Result<NamedExpr
     /// `For | Let | Keep | Group | Order | Count`
     #[tactic(auto, unfolding(query_grammar::specs::Grammar::clause))]
     pub fn clause(&self, cursor: &mut Cursor<'_, Word>) -> Result<Vec<NamedClause>, Stop>
-        requires { Nests forms tree self.now.parts.wide self.now.parts.depth
+        requires { Nests forms named_tree self.now.parts.wide self.now.parts.depth
             (F.pre self.now.parts.inner) (F.post self.now.parts.inner) }
         ensures { ReadsAs view.clauses
             (reader g.clause self.now.parts.wide self.now.parts.depth cursor.old.rest.now) result
@@ -393,7 +394,7 @@ impl<F: Fn(Global, bool, usize, Part, &mut Cursor<'_, Word>) -> Result<NamedExpr
     /// `{ For | Let | Keep | Group | Order | Count }`
     #[tactic(auto, unfolding(query_grammar::specs::Grammar::clauses))]
     pub fn clauses(&self, cursor: &mut Cursor<'_, Word>) -> Result<Vec<Vec<NamedClause>>, Stop>
-        requires { Nests forms tree self.now.parts.wide self.now.parts.depth
+        requires { Nests forms named_tree self.now.parts.wide self.now.parts.depth
             (F.pre self.now.parts.inner) (F.post self.now.parts.inner) }
         ensures { ReadsAs view.clause_lists
             (reader g.clauses self.now.parts.wide self.now.parts.depth cursor.old.rest.now) result

@@ -4,10 +4,10 @@ ghost use Rattle.std.specs.Prelude.{◌≡◌, ◌++◌, ◌∷◌, [], MatchRes
 ghost use Rattle.grammar_parts.specs.declared.cursor.Stop.TheVariants.{NoMemory};
 ghost use Rattle.grammar_parts.specs.Levels.{level};
 ghost use Rattle.grammar_parts.specs.Reads.{ReadsAs};
+ghost use Rattle.query_tree.specs.NamedViews.{named_tree, named_query};
 ghost use Rattle.query_grammar.specs.Nodes as n;
 ghost use Rattle.query_grammar.specs.Grammar as g;
 ghost use Rattle.query_grammar.specs.Grammar.{forms};
-ghost use Rattle.expression_parser.specs.Views.{tree};
 ghost use Rattle.query_parser.specs.Views as view;
 ghost use Rattle.query_parser.specs.Views.{top_reader, variables_of, functions_of};
 
@@ -38,7 +38,7 @@ pub fn read(
     part: Part,
     cursor: &mut Cursor<'_, Word>,
 ) -> Result<NamedExpr, Stop>
-    ensures { ReadsAs tree ((level forms wide depth part).read cursor.old.rest.now) result
+    ensures { ReadsAs named_tree ((level forms wide depth part).read cursor.old.rest.now) result
         cursor.new.rest.now }
 {
     let statements = Statements {
@@ -105,7 +105,7 @@ fn module_with(
     body: NamedExpr,
 ) -> Result<Query, Stop>
     ensures { MatchResult result
-        (λ m. view.module_of m ≡ n.module_with (view.declarations declarations, tree body))
+        (λ m. named_query m ≡ n.module_with (view.declarations declarations, named_tree body))
         (λ e. e ≡ NoMemory) }
 {
     let (variables, functions, body) = sorted(alloc, declarations, body)?;
@@ -178,7 +178,7 @@ impl Top {
     /// `"{" Expr "}"`
     #[tactic(auto, unfolding(query_grammar::specs::Grammar::function_body))]
     fn function_body(&self, cursor: &mut Cursor<'_, Word>) -> Result<NamedExpr, Stop>
-        ensures { ReadsAs tree
+        ensures { ReadsAs named_tree
             (top_reader g.function_body self.now.wide self.now.depth cursor.old.rest.now) result
             cursor.new.rest.now }
     {
@@ -262,7 +262,7 @@ impl Top {
     /// `Module`
     #[tactic(auto, unfolding(query_grammar::specs::Grammar::module_part))]
     pub fn module(&self, cursor: &mut Cursor<'_, Word>) -> Result<Query, Stop>
-        ensures { ReadsAs view.module_of
+        ensures { ReadsAs named_query
             (top_reader g.module_part self.now.wide self.now.depth cursor.old.rest.now) result
             cursor.new.rest.now }
     {

@@ -2,9 +2,9 @@
 
 ghost use Rattle.std.specs.Prelude.{◌≡◌, MatchResult};
 ghost use Rattle.grammar_parts.specs.declared.cursor.Stop.TheVariants.{NoMemory};
+ghost use Rattle.query_tree.specs.NamedViews.{named_tree, named_clause, named_catch};
 ghost use Rattle.query_grammar.specs.Nodes as n;
 ghost use Rattle.query_parser.specs.Views as view;
-ghost use Rattle.expression_parser.specs.Views.{tree};
 
 use crate::gather::{all_boxed, both_boxed_beside, joined_beside};
 use crate::values::{error_variable, quantifier_of};
@@ -30,7 +30,8 @@ pub fn for_of(
     at: Option<Placed<Str>>,
     source: NamedExpr,
 ) -> NamedClause
-    ensures { view.clause result ≡ n.for_var (variable, (of, (allowing_empty, (at, tree source)))) }
+    ensures { named_clause result
+        ≡ n.for_var (variable, (of, (allowing_empty, (at, named_tree source)))) }
 {
     Clause::For {
         variable,
@@ -43,7 +44,7 @@ pub fn for_of(
 
 #[tactic(auto, using(query_tree::proofs::Layers::layers))]
 pub fn let_of(variable: Placed<Str>, of: Option<Placed<TypeName>>, value: NamedExpr) -> NamedClause
-    ensures { view.clause result ≡ n.let_var (variable, (of, tree value)) }
+    ensures { named_clause result ≡ n.let_var (variable, (of, named_tree value)) }
 {
     Clause::Let {
         variable,
@@ -54,21 +55,21 @@ pub fn let_of(variable: Placed<Str>, of: Option<Placed<TypeName>>, value: NamedE
 
 #[tactic(auto, using(query_tree::proofs::Layers::layers))]
 pub fn keep_of(place: u32, test: NamedExpr) -> NamedClause
-    ensures { view.clause result ≡ n.keep_clause (place, tree test) }
+    ensures { named_clause result ≡ n.keep_clause (place, named_tree test) }
 {
     Clause::Keep { place, test }
 }
 
 #[tactic(auto, using(query_tree::proofs::Layers::layers))]
 pub fn group_of(place: u32, keys: Vec<GroupVar<Str, NamedExpr>>) -> NamedClause
-    ensures { view.clause result ≡ n.group_clause (place, view.group_vars keys) }
+    ensures { named_clause result ≡ n.group_clause (place, view.group_vars keys) }
 {
     Clause::Group { place, keys }
 }
 
 #[tactic(auto, using(query_tree::proofs::Layers::layers))]
 pub fn order_of(place: u32, stable: bool, keys: Vec<OrderKey<NamedExpr>>) -> NamedClause
-    ensures { view.clause result ≡ n.order_clause stable (place, view.order_keys keys) }
+    ensures { named_clause result ≡ n.order_clause stable (place, view.order_keys keys) }
 {
     Clause::Order {
         place,
@@ -79,7 +80,7 @@ pub fn order_of(place: u32, stable: bool, keys: Vec<OrderKey<NamedExpr>>) -> Nam
 
 #[tactic(auto, using(query_tree::proofs::Layers::layers))]
 pub fn count_of(place: u32, variable: Placed<Str>) -> NamedClause
-    ensures { view.clause result ≡ n.count_clause (place, variable) }
+    ensures { named_clause result ≡ n.count_clause (place, variable) }
 {
     Clause::Count { place, variable }
 }
@@ -94,8 +95,9 @@ pub fn flwor_of(
 ) -> Result<NamedExpr, Stop>
     ensures { MatchResult result
         (λ e.
-        tree e
-        ≡ n.flwor (view.placed_clauses first, (view.clause_lists others, (place, tree value))))
+        named_tree e
+        ≡ n.flwor
+        (view.placed_clauses first, (view.clause_lists others, (place, named_tree value))))
         (λ e. e ≡ NoMemory) }
 {
     let (start, clauses) = first;
@@ -117,7 +119,8 @@ pub fn quant_of(
     binds: Vec<Bind<Str, TypeName, NamedExpr>>,
     test: NamedExpr,
 ) -> Result<NamedExpr, Stop>
-    ensures { MatchResult result (λ e. tree e ≡ n.quant (word.now, (view.binds binds, tree test)))
+    ensures { MatchResult result
+        (λ e. named_tree e ≡ n.quant (word.now, (view.binds binds, named_tree test)))
         (λ e. e ≡ NoMemory) }
 {
     let quantifier = quantifier_of(word.kind);
@@ -140,7 +143,9 @@ pub fn switch_of(
     default: NamedExpr,
 ) -> Result<NamedExpr, Stop>
     ensures { MatchResult result
-        (λ e. tree e ≡ n.switch (place, (tree operand, (view.cases cases, tree default))))
+        (λ e.
+        named_tree e
+        ≡ n.switch (place, (named_tree operand, (view.cases cases, named_tree default))))
         (λ e. e ≡ NoMemory) }
 {
     let (operand, default, cases) = both_boxed_beside(alloc, operand, default, cases)?;
@@ -163,9 +168,9 @@ pub fn typeswitch_of(
 ) -> Result<NamedExpr, Stop>
     ensures { MatchResult result
         (λ e.
-        tree e
+        named_tree e
         ≡ n.typeswitch
-        (place, (tree operand, (view.type_cases cases, view.type_default default))))
+        (place, (named_tree operand, (view.type_cases cases, view.type_default default))))
         (λ e. e ≡ NoMemory) }
 {
     let (variable, value) = default;
@@ -189,7 +194,9 @@ pub fn if_of(
     when_false: NamedExpr,
 ) -> Result<NamedExpr, Stop>
     ensures { MatchResult result
-        (λ e. tree e ≡ n.if (place, (tree condition, (tree when_true, tree when_false))))
+        (λ e.
+        named_tree e
+        ≡ n.if (place, (named_tree condition, (named_tree when_true, named_tree when_false))))
         (λ e. e ≡ NoMemory) }
 {
     let (condition, when_true, when_false) = all_boxed(alloc, condition, when_true, when_false)?;
@@ -209,7 +216,8 @@ pub fn try_of(
     body: NamedExpr,
     catches: Vec<Catch<Str, NamedExpr>>,
 ) -> Result<NamedExpr, Stop>
-    ensures { MatchResult result (λ e. tree e ≡ n.try (place, (tree body, view.catches catches)))
+    ensures { MatchResult result
+        (λ e. named_tree e ≡ n.try (place, (named_tree body, view.catches catches)))
         (λ e. e ≡ NoMemory) }
 {
     let (body, catches) = boxed_beside(alloc, body, catches)?;
@@ -227,7 +235,8 @@ pub fn catch_of(
     body: NamedExpr,
 ) -> Result<Catch<Str, NamedExpr>, Stop>
     ensures { MatchResult result
-        (λ x. view.catch x ≡ n.catch (place, (view.codes codes, tree body))) (λ e. e ≡ NoMemory) }
+        (λ x. named_catch x ≡ n.catch (place, (view.codes codes, named_tree body)))
+        (λ e. e ≡ NoMemory) }
 {
     let error = or_give_up!((codes, body), error_variable(alloc, place));
     Ok(Catch { error, codes, body })

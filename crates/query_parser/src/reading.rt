@@ -3,10 +3,10 @@
 ghost use Rattle.std.specs.Prelude.{◌≡◌, ℕ, List, length, MatchResult, MatchBool, IfOk, IfErr, false};
 ghost use Rattle.grammar_parts.specs.Refusals.{Reached, outcome_of};
 ghost use Rattle.query_lexer.specs.Lexes.{AreTokens};
+ghost use Rattle.query_tree.specs.NamedViews.{named_query};
 ghost use Rattle.query_grammar.specs.Nodes.{Module};
 ghost use Rattle.query_grammar.specs.Texts.{Derives, BeginsWithoutBound, IsCodeOf, part_of, query};
 ghost use Rattle.query_grammar.specs.declared.word.Word.{Word};
-ghost use Rattle.query_parser.specs.Views.{module_of};
 ghost use Rattle.query_parser.specs.Queries.{IsQuery, IsQueryAt, AreRefused, IsFault, IsFaultAt};
 ghost use Rattle.query_parser.specs.declared.reading.ParseFault.TheVariants.{NoMemory};
 
@@ -43,7 +43,7 @@ fn reach(
     words: &[Word],
 ) -> Result<(Option<Query>, &[Word]), ParseFault>
     ensures { MatchResult result
-        (λ x. (part_of wide depth).read words.now ≡ outcome_of module_of x.0 x.1.now)
+        (λ x. (part_of wide depth).read words.now ≡ outcome_of named_query x.0 x.1.now)
         (λ f. f ≡ NoMemory) }
 {
     let mut cursor = Cursor { rest: words };
@@ -105,9 +105,9 @@ fn refusal(alloc: Global, words: &[Word], rest: &[Word], end: u32) -> ParseFault
 
 /// The query of words, or where and why they are refused. `end` is the place where the text ends.
 fn query_of(alloc: Global, words: &[Word], end: u32) -> Result<Query, ParseFault>
-    ensures found { IfOk result (λ query. Derives words.now (module_of query)) }
+    ensures found { IfOk result (λ query. Derives words.now (named_query query)) }
     ensures only { (tree : Module) → Derives words.now tree
-        → MatchResult result (λ query. module_of query ≡ tree) (λ f. f ≡ NoMemory) }
+        → MatchResult result (λ query. named_query query ≡ tree) (λ f. f ≡ NoMemory) }
     ensures refused { IfErr result (λ f. AreRefused words.now end f) }
 {
     let (query, rest) = reach(alloc, false, MAX_NESTING, words)?;
@@ -135,10 +135,10 @@ pub fn parse_at(
     // The tokens are some that `query_lexer::tokens` gives for this text.
     requires { AreTokens text.now tokens.now }
     // What is read is in the grammar.
-    ensures found { IfOk result (λ query. IsQueryAt start text.now tokens.now (module_of query)) }
+    ensures found { IfOk result (λ query. IsQueryAt start text.now tokens.now (named_query query)) }
     // What is in the grammar is read, unless memory runs out. So there is at most one tree.
     ensures only { (tree : Module) → IsQueryAt start text.now tokens.now tree
-        → MatchResult result (λ query. module_of query ≡ tree) (λ f. f ≡ NoMemory) }
+        → MatchResult result (λ query. named_query query ≡ tree) (λ f. f ≡ NoMemory) }
     // What is refused is refused at the first token that goes on with no beginning, with its code.
     ensures refused { IfErr result (λ f. IsFaultAt start text.now tokens.now f) }
 {
@@ -157,10 +157,10 @@ pub fn parse(alloc: Global, text: &str, tokens: &[Token]) -> Result<Query, Parse
     // The tokens are some that `query_lexer::tokens` gives for this text.
     requires { AreTokens text.now tokens.now }
     // What is read is in the grammar.
-    ensures found { IfOk result (λ query. IsQuery text.now tokens.now (module_of query)) }
+    ensures found { IfOk result (λ query. IsQuery text.now tokens.now (named_query query)) }
     // What is in the grammar is read, unless memory runs out. So there is at most one tree.
     ensures only { (tree : Module) → IsQuery text.now tokens.now tree
-        → MatchResult result (λ query. module_of query ≡ tree) (λ f. f ≡ NoMemory) }
+        → MatchResult result (λ query. named_query query ≡ tree) (λ f. f ≡ NoMemory) }
     // What is refused is refused at the first token that goes on with no beginning, with its code.
     ensures refused { IfErr result (λ f. IsFault text.now tokens.now f) }
 {

@@ -2,12 +2,13 @@
 
 ghost use Rattle.grammar_parts.specs.Nests.{Nests};
 ghost use Rattle.grammar_parts.specs.Reads.{ReadsAs};
+ghost use Rattle.query_tree.specs.NamedViews.{named_tree, named_operand, named_bind, named_case, named_type_case, named_catch};
 ghost use Rattle.query_grammar.specs.Nodes as n;
 ghost use Rattle.query_grammar.specs.Classes.{is_name};
 ghost use Rattle.query_grammar.specs.Languages.{mapped, one};
 ghost use Rattle.query_grammar.specs.Grammar as g;
 ghost use Rattle.query_grammar.specs.Grammar.{forms};
-ghost use Rattle.expression_parser.specs.Views.{reader, tree, trees, operand, operands};
+ghost use Rattle.expression_parser.specs.Views.{reader, trees, operands};
 ghost use Rattle.query_parser.specs.Views as view;
 
 use crate::clauses::Statements;
@@ -35,9 +36,9 @@ impl<F: Fn(Global, bool, usize, Part, &mut Cursor<'_, Word>) -> Result<NamedExpr
     /// `"return" Single`
     #[tactic(auto, unfolding(query_grammar::specs::Grammar::returned))]
     pub fn returned(&self, cursor: &mut Cursor<'_, Word>) -> Result<NamedExpr, Stop>
-        requires { Nests forms tree self.now.parts.wide self.now.parts.depth
+        requires { Nests forms named_tree self.now.parts.wide self.now.parts.depth
             (F.pre self.now.parts.inner) (F.post self.now.parts.inner) }
-        ensures { ReadsAs tree
+        ensures { ReadsAs named_tree
             (reader g.returned self.now.parts.wide self.now.parts.depth cursor.old.rest.now)
             result cursor.new.rest.now }
     {
@@ -48,9 +49,9 @@ impl<F: Fn(Global, bool, usize, Part, &mut Cursor<'_, Word>) -> Result<NamedExpr
     /// `Flwor`
     #[tactic(auto, unfolding(query_grammar::specs::Grammar::flwor))]
     pub fn flwor(&self, cursor: &mut Cursor<'_, Word>) -> Result<NamedExpr, Stop>
-        requires { Nests forms tree self.now.parts.wide self.now.parts.depth
+        requires { Nests forms named_tree self.now.parts.wide self.now.parts.depth
             (F.pre self.now.parts.inner) (F.post self.now.parts.inner) }
-        ensures { ReadsAs tree
+        ensures { ReadsAs named_tree
             (reader g.flwor self.now.parts.wide self.now.parts.depth cursor.old.rest.now) result
             cursor.new.rest.now }
     {
@@ -70,9 +71,9 @@ impl<F: Fn(Global, bool, usize, Part, &mut Cursor<'_, Word>) -> Result<NamedExpr
         &self,
         cursor: &mut Cursor<'_, Word>,
     ) -> Result<Bind<Str, TypeName, NamedExpr>, Stop>
-        requires { Nests forms tree self.now.parts.wide self.now.parts.depth
+        requires { Nests forms named_tree self.now.parts.wide self.now.parts.depth
             (F.pre self.now.parts.inner) (F.post self.now.parts.inner) }
-        ensures { ReadsAs view.bind
+        ensures { ReadsAs named_bind
             (reader g.bind self.now.parts.wide self.now.parts.depth cursor.old.rest.now) result
             cursor.new.rest.now }
     {
@@ -93,7 +94,7 @@ impl<F: Fn(Global, bool, usize, Part, &mut Cursor<'_, Word>) -> Result<NamedExpr
         &self,
         cursor: &mut Cursor<'_, Word>,
     ) -> Result<Vec<Bind<Str, TypeName, NamedExpr>>, Stop>
-        requires { Nests forms tree self.now.parts.wide self.now.parts.depth
+        requires { Nests forms named_tree self.now.parts.wide self.now.parts.depth
             (F.pre self.now.parts.inner) (F.post self.now.parts.inner) }
         ensures { ReadsAs view.binds
             (reader g.binds self.now.parts.wide self.now.parts.depth cursor.old.rest.now) result
@@ -105,9 +106,9 @@ impl<F: Fn(Global, bool, usize, Part, &mut Cursor<'_, Word>) -> Result<NamedExpr
     /// `Quant`
     #[tactic(auto, unfolding(query_grammar::specs::Grammar::quant))]
     pub fn quant(&self, cursor: &mut Cursor<'_, Word>) -> Result<NamedExpr, Stop>
-        requires { Nests forms tree self.now.parts.wide self.now.parts.depth
+        requires { Nests forms named_tree self.now.parts.wide self.now.parts.depth
             (F.pre self.now.parts.inner) (F.post self.now.parts.inner) }
-        ensures { ReadsAs tree
+        ensures { ReadsAs named_tree
             (reader g.quant self.now.parts.wide self.now.parts.depth cursor.old.rest.now) result
             cursor.new.rest.now }
     {
@@ -124,9 +125,9 @@ impl<F: Fn(Global, bool, usize, Part, &mut Cursor<'_, Word>) -> Result<NamedExpr
     /// `"case" Single`
     #[tactic(auto, unfolding(query_grammar::specs::Grammar::case_test))]
     pub fn case_test(&self, cursor: &mut Cursor<'_, Word>) -> Result<NamedExpr, Stop>
-        requires { Nests forms tree self.now.parts.wide self.now.parts.depth
+        requires { Nests forms named_tree self.now.parts.wide self.now.parts.depth
             (F.pre self.now.parts.inner) (F.post self.now.parts.inner) }
-        ensures { ReadsAs tree
+        ensures { ReadsAs named_tree
             (reader g.case_test self.now.parts.wide self.now.parts.depth cursor.old.rest.now)
             result cursor.new.rest.now }
     {
@@ -137,7 +138,7 @@ impl<F: Fn(Global, bool, usize, Part, &mut Cursor<'_, Word>) -> Result<NamedExpr
     /// `"case" Single { "case" Single }`
     #[tactic(auto, unfolding(query_grammar::specs::Grammar::case_tests))]
     pub fn case_tests(&self, cursor: &mut Cursor<'_, Word>) -> Result<Vec<NamedExpr>, Stop>
-        requires { Nests forms tree self.now.parts.wide self.now.parts.depth
+        requires { Nests forms named_tree self.now.parts.wide self.now.parts.depth
             (F.pre self.now.parts.inner) (F.post self.now.parts.inner) }
         ensures { ReadsAs trees
             (reader g.case_tests self.now.parts.wide self.now.parts.depth cursor.old.rest.now)
@@ -154,9 +155,9 @@ impl<F: Fn(Global, bool, usize, Part, &mut Cursor<'_, Word>) -> Result<NamedExpr
     /// `Case`
     #[tactic(auto, unfolding(query_grammar::specs::Grammar::case))]
     pub fn case(&self, cursor: &mut Cursor<'_, Word>) -> Result<Case<NamedExpr>, Stop>
-        requires { Nests forms tree self.now.parts.wide self.now.parts.depth
+        requires { Nests forms named_tree self.now.parts.wide self.now.parts.depth
             (F.pre self.now.parts.inner) (F.post self.now.parts.inner) }
-        ensures { ReadsAs view.case
+        ensures { ReadsAs named_case
             (reader g.case self.now.parts.wide self.now.parts.depth cursor.old.rest.now) result
             cursor.new.rest.now }
     {
@@ -171,7 +172,7 @@ impl<F: Fn(Global, bool, usize, Part, &mut Cursor<'_, Word>) -> Result<NamedExpr
     /// `Case { Case }`
     #[tactic(auto, unfolding(query_grammar::specs::Grammar::cases))]
     pub fn cases(&self, cursor: &mut Cursor<'_, Word>) -> Result<Vec<Case<NamedExpr>>, Stop>
-        requires { Nests forms tree self.now.parts.wide self.now.parts.depth
+        requires { Nests forms named_tree self.now.parts.wide self.now.parts.depth
             (F.pre self.now.parts.inner) (F.post self.now.parts.inner) }
         ensures { ReadsAs view.cases
             (reader g.cases self.now.parts.wide self.now.parts.depth cursor.old.rest.now) result
@@ -183,9 +184,9 @@ impl<F: Fn(Global, bool, usize, Part, &mut Cursor<'_, Word>) -> Result<NamedExpr
     /// `Switch`
     #[tactic(auto, unfolding(query_grammar::specs::Grammar::switch))]
     pub fn switch(&self, cursor: &mut Cursor<'_, Word>) -> Result<NamedExpr, Stop>
-        requires { Nests forms tree self.now.parts.wide self.now.parts.depth
+        requires { Nests forms named_tree self.now.parts.wide self.now.parts.depth
             (F.pre self.now.parts.inner) (F.post self.now.parts.inner) }
-        ensures { ReadsAs tree
+        ensures { ReadsAs named_tree
             (reader g.switch self.now.parts.wide self.now.parts.depth cursor.old.rest.now) result
             cursor.new.rest.now }
     {
@@ -203,7 +204,7 @@ impl<F: Fn(Global, bool, usize, Part, &mut Cursor<'_, Word>) -> Result<NamedExpr
     /// `[ Var "as" ]`
     #[tactic(auto, unfolding(query_grammar::specs::Grammar::case_variable))]
     pub fn case_variable(&self, cursor: &mut Cursor<'_, Word>) -> Result<Option<Placed<Str>>, Stop>
-        requires { Nests forms tree self.now.parts.wide self.now.parts.depth
+        requires { Nests forms named_tree self.now.parts.wide self.now.parts.depth
             (F.pre self.now.parts.inner) (F.post self.now.parts.inner) }
         ensures { ReadsAs (λ x. x)
             (reader g.case_variable self.now.parts.wide self.now.parts.depth cursor.old.rest.now)
@@ -220,7 +221,7 @@ impl<F: Fn(Global, bool, usize, Part, &mut Cursor<'_, Word>) -> Result<NamedExpr
     /// `SeqType { "|" SeqType }`
     #[tactic(auto, unfolding(query_grammar::specs::Grammar::seq_types))]
     pub fn seq_types(&self, cursor: &mut Cursor<'_, Word>) -> Result<Vec<Placed<TypeName>>, Stop>
-        requires { Nests forms tree self.now.parts.wide self.now.parts.depth
+        requires { Nests forms named_tree self.now.parts.wide self.now.parts.depth
             (F.pre self.now.parts.inner) (F.post self.now.parts.inner) }
         ensures { ReadsAs (λ v. v.items)
             (reader g.seq_types self.now.parts.wide self.now.parts.depth cursor.old.rest.now)
@@ -240,9 +241,9 @@ impl<F: Fn(Global, bool, usize, Part, &mut Cursor<'_, Word>) -> Result<NamedExpr
         &self,
         cursor: &mut Cursor<'_, Word>,
     ) -> Result<TypeCase<Str, TypeName, NamedExpr>, Stop>
-        requires { Nests forms tree self.now.parts.wide self.now.parts.depth
+        requires { Nests forms named_tree self.now.parts.wide self.now.parts.depth
             (F.pre self.now.parts.inner) (F.post self.now.parts.inner) }
-        ensures { ReadsAs view.type_case
+        ensures { ReadsAs named_type_case
             (reader g.type_case self.now.parts.wide self.now.parts.depth cursor.old.rest.now)
             result cursor.new.rest.now }
     {
@@ -263,7 +264,7 @@ impl<F: Fn(Global, bool, usize, Part, &mut Cursor<'_, Word>) -> Result<NamedExpr
         &self,
         cursor: &mut Cursor<'_, Word>,
     ) -> Result<Vec<TypeCase<Str, TypeName, NamedExpr>>, Stop>
-        requires { Nests forms tree self.now.parts.wide self.now.parts.depth
+        requires { Nests forms named_tree self.now.parts.wide self.now.parts.depth
             (F.pre self.now.parts.inner) (F.post self.now.parts.inner) }
         ensures { ReadsAs view.type_cases
             (reader g.type_cases self.now.parts.wide self.now.parts.depth cursor.old.rest.now)
@@ -283,7 +284,7 @@ impl<F: Fn(Global, bool, usize, Part, &mut Cursor<'_, Word>) -> Result<NamedExpr
         &self,
         cursor: &mut Cursor<'_, Word>,
     ) -> Result<Option<Placed<Str>>, Stop>
-        requires { Nests forms tree self.now.parts.wide self.now.parts.depth
+        requires { Nests forms named_tree self.now.parts.wide self.now.parts.depth
             (F.pre self.now.parts.inner) (F.post self.now.parts.inner) }
         ensures { ReadsAs (λ x. x)
             (reader g.default_variable self.now.parts.wide self.now.parts.depth
@@ -302,7 +303,7 @@ impl<F: Fn(Global, bool, usize, Part, &mut Cursor<'_, Word>) -> Result<NamedExpr
         &self,
         cursor: &mut Cursor<'_, Word>,
     ) -> Result<(Option<Placed<Str>>, NamedExpr), Stop>
-        requires { Nests forms tree self.now.parts.wide self.now.parts.depth
+        requires { Nests forms named_tree self.now.parts.wide self.now.parts.depth
             (F.pre self.now.parts.inner) (F.post self.now.parts.inner) }
         ensures { ReadsAs view.type_default
             (reader g.type_default self.now.parts.wide self.now.parts.depth cursor.old.rest.now)
@@ -317,9 +318,9 @@ impl<F: Fn(Global, bool, usize, Part, &mut Cursor<'_, Word>) -> Result<NamedExpr
     /// `Typeswitch`
     #[tactic(auto, unfolding(query_grammar::specs::Grammar::typeswitch))]
     pub fn typeswitch(&self, cursor: &mut Cursor<'_, Word>) -> Result<NamedExpr, Stop>
-        requires { Nests forms tree self.now.parts.wide self.now.parts.depth
+        requires { Nests forms named_tree self.now.parts.wide self.now.parts.depth
             (F.pre self.now.parts.inner) (F.post self.now.parts.inner) }
-        ensures { ReadsAs tree
+        ensures { ReadsAs named_tree
             (reader g.typeswitch self.now.parts.wide self.now.parts.depth cursor.old.rest.now)
             result cursor.new.rest.now }
     {
@@ -335,9 +336,9 @@ impl<F: Fn(Global, bool, usize, Part, &mut Cursor<'_, Word>) -> Result<NamedExpr
 
     /// `If`, where it may stand.
     pub fn if_content(&self, cursor: &mut Cursor<'_, Word>) -> Result<NamedExpr, Stop>
-        requires { Nests forms tree self.now.parts.wide self.now.parts.depth
+        requires { Nests forms named_tree self.now.parts.wide self.now.parts.depth
             (F.pre self.now.parts.inner) (F.post self.now.parts.inner) }
-        ensures { ReadsAs tree
+        ensures { ReadsAs named_tree
             (reader view.if_content self.now.parts.wide self.now.parts.depth cursor.old.rest.now)
             result cursor.new.rest.now }
     {
@@ -355,9 +356,9 @@ impl<F: Fn(Global, bool, usize, Part, &mut Cursor<'_, Word>) -> Result<NamedExpr
 
     /// `If`
     pub fn if_then(&self, cursor: &mut Cursor<'_, Word>) -> Result<NamedExpr, Stop>
-        requires { Nests forms tree self.now.parts.wide self.now.parts.depth
+        requires { Nests forms named_tree self.now.parts.wide self.now.parts.depth
             (F.pre self.now.parts.inner) (F.post self.now.parts.inner) }
-        ensures { ReadsAs tree
+        ensures { ReadsAs named_tree
             (reader g.if self.now.parts.wide self.now.parts.depth cursor.old.rest.now) result
             cursor.new.rest.now }
     {
@@ -370,7 +371,7 @@ impl<F: Fn(Global, bool, usize, Part, &mut Cursor<'_, Word>) -> Result<NamedExpr
 
     /// `Name { "|" Name }`, as the names of codes.
     pub fn catch_names(&self, cursor: &mut Cursor<'_, Word>) -> Result<Vec<Str>, Stop>
-        requires { Nests forms tree self.now.parts.wide self.now.parts.depth
+        requires { Nests forms named_tree self.now.parts.wide self.now.parts.depth
             (F.pre self.now.parts.inner) (F.post self.now.parts.inner) }
         ensures { ReadsAs view.some_codes
             (reader view.named_codes self.now.parts.wide self.now.parts.depth cursor.old.rest.now)
@@ -387,7 +388,7 @@ impl<F: Fn(Global, bool, usize, Part, &mut Cursor<'_, Word>) -> Result<NamedExpr
     /// `"*" | Name { "|" Name }`
     #[tactic(auto, unfolding(query_grammar::specs::Grammar::catch_codes))]
     pub fn catch_codes(&self, cursor: &mut Cursor<'_, Word>) -> Result<Option<Vec<Str>>, Stop>
-        requires { Nests forms tree self.now.parts.wide self.now.parts.depth
+        requires { Nests forms named_tree self.now.parts.wide self.now.parts.depth
             (F.pre self.now.parts.inner) (F.post self.now.parts.inner) }
         ensures { ReadsAs view.codes
             (reader g.catch_codes self.now.parts.wide self.now.parts.depth cursor.old.rest.now)
@@ -404,9 +405,9 @@ impl<F: Fn(Global, bool, usize, Part, &mut Cursor<'_, Word>) -> Result<NamedExpr
     /// `Catch`
     #[tactic(auto, unfolding(query_grammar::specs::Grammar::catch))]
     pub fn catch(&self, cursor: &mut Cursor<'_, Word>) -> Result<Catch<Str, NamedExpr>, Stop>
-        requires { Nests forms tree self.now.parts.wide self.now.parts.depth
+        requires { Nests forms named_tree self.now.parts.wide self.now.parts.depth
             (F.pre self.now.parts.inner) (F.post self.now.parts.inner) }
-        ensures { ReadsAs view.catch
+        ensures { ReadsAs named_catch
             (reader g.catch self.now.parts.wide self.now.parts.depth cursor.old.rest.now) result
             cursor.new.rest.now }
     {
@@ -419,7 +420,7 @@ impl<F: Fn(Global, bool, usize, Part, &mut Cursor<'_, Word>) -> Result<NamedExpr
     /// `Catch { Catch }`
     #[tactic(auto, unfolding(query_grammar::specs::Grammar::catches))]
     pub fn catches(&self, cursor: &mut Cursor<'_, Word>) -> Result<Vec<Catch<Str, NamedExpr>>, Stop>
-        requires { Nests forms tree self.now.parts.wide self.now.parts.depth
+        requires { Nests forms named_tree self.now.parts.wide self.now.parts.depth
             (F.pre self.now.parts.inner) (F.post self.now.parts.inner) }
         ensures { ReadsAs view.catches
             (reader g.catches self.now.parts.wide self.now.parts.depth cursor.old.rest.now) result
@@ -430,9 +431,9 @@ impl<F: Fn(Global, bool, usize, Part, &mut Cursor<'_, Word>) -> Result<NamedExpr
 
     /// `Try`, where it may stand.
     pub fn try_content(&self, cursor: &mut Cursor<'_, Word>) -> Result<NamedExpr, Stop>
-        requires { Nests forms tree self.now.parts.wide self.now.parts.depth
+        requires { Nests forms named_tree self.now.parts.wide self.now.parts.depth
             (F.pre self.now.parts.inner) (F.post self.now.parts.inner) }
-        ensures { ReadsAs tree
+        ensures { ReadsAs named_tree
             (reader view.try_content self.now.parts.wide self.now.parts.depth cursor.old.rest.now)
             result cursor.new.rest.now }
     {
@@ -444,9 +445,9 @@ impl<F: Fn(Global, bool, usize, Part, &mut Cursor<'_, Word>) -> Result<NamedExpr
 
     /// `Try`
     pub fn try_catch(&self, cursor: &mut Cursor<'_, Word>) -> Result<NamedExpr, Stop>
-        requires { Nests forms tree self.now.parts.wide self.now.parts.depth
+        requires { Nests forms named_tree self.now.parts.wide self.now.parts.depth
             (F.pre self.now.parts.inner) (F.post self.now.parts.inner) }
-        ensures { ReadsAs tree
+        ensures { ReadsAs named_tree
             (reader g.try self.now.parts.wide self.now.parts.depth cursor.old.rest.now) result
             cursor.new.rest.now }
     {
@@ -460,9 +461,9 @@ impl<F: Fn(Global, bool, usize, Part, &mut Cursor<'_, Word>) -> Result<NamedExpr
     /// `Single`
     #[tactic(auto, unfolding(query_grammar::specs::Grammar::single))]
     pub fn single(&self, cursor: &mut Cursor<'_, Word>) -> Result<NamedExpr, Stop>
-        requires { Nests forms tree self.now.parts.wide self.now.parts.depth
+        requires { Nests forms named_tree self.now.parts.wide self.now.parts.depth
             (F.pre self.now.parts.inner) (F.post self.now.parts.inner) }
-        ensures { ReadsAs tree
+        ensures { ReadsAs named_tree
             (reader g.single self.now.parts.wide self.now.parts.depth cursor.old.rest.now) result
             cursor.new.rest.now }
     {
@@ -487,9 +488,9 @@ impl<F: Fn(Global, bool, usize, Part, &mut Cursor<'_, Word>) -> Result<NamedExpr
     /// `"," Single`
     #[tactic(auto, unfolding(query_grammar::specs::Grammar::comma_operand))]
     pub fn comma_operand(&self, cursor: &mut Cursor<'_, Word>) -> Result<Operand<NamedExpr>, Stop>
-        requires { Nests forms tree self.now.parts.wide self.now.parts.depth
+        requires { Nests forms named_tree self.now.parts.wide self.now.parts.depth
             (F.pre self.now.parts.inner) (F.post self.now.parts.inner) }
-        ensures { ReadsAs operand
+        ensures { ReadsAs named_operand
             (reader g.comma_operand self.now.parts.wide self.now.parts.depth cursor.old.rest.now)
             result cursor.new.rest.now }
     {
@@ -504,7 +505,7 @@ impl<F: Fn(Global, bool, usize, Part, &mut Cursor<'_, Word>) -> Result<NamedExpr
         &self,
         cursor: &mut Cursor<'_, Word>,
     ) -> Result<Vec<Operand<NamedExpr>>, Stop>
-        requires { Nests forms tree self.now.parts.wide self.now.parts.depth
+        requires { Nests forms named_tree self.now.parts.wide self.now.parts.depth
             (F.pre self.now.parts.inner) (F.post self.now.parts.inner) }
         ensures { ReadsAs operands
             (reader g.comma_operands self.now.parts.wide self.now.parts.depth cursor.old.rest.now)
@@ -521,9 +522,9 @@ impl<F: Fn(Global, bool, usize, Part, &mut Cursor<'_, Word>) -> Result<NamedExpr
     /// `Expr`
     #[tactic(auto, unfolding(query_grammar::specs::Grammar::expr))]
     pub fn expr(&self, cursor: &mut Cursor<'_, Word>) -> Result<NamedExpr, Stop>
-        requires { Nests forms tree self.now.parts.wide self.now.parts.depth
+        requires { Nests forms named_tree self.now.parts.wide self.now.parts.depth
             (F.pre self.now.parts.inner) (F.post self.now.parts.inner) }
-        ensures { ReadsAs tree
+        ensures { ReadsAs named_tree
             (reader g.expr self.now.parts.wide self.now.parts.depth cursor.old.rest.now) result
             cursor.new.rest.now }
     {

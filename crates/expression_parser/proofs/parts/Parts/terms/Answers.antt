@@ -1,12 +1,12 @@
 use Rattle.std.proofs.Common.{rules, of_calls}
+use Rattle.query_tree.specs.NamedViews.{named_term}
 use Rattle.query_grammar.specs.Classes.{is_sum_op}
 use Rattle.query_grammar.specs.Languages.{of_kind}
 use Rattle.query_grammar.specs.Grammar as g
 use Rattle.grammar_parts.proofs.TurnLemmas.{repeated_reads}
-use Rattle.expression_parser.specs.Views as view
 use Rattle.expression_parser.specs.Views.{reader}
 use Rattle.expression_parser.proofs.parts.Parts.terms.Goals as goal
 
 pub returns : goal.returns
 unfolding g.terms
-returns o c = repeated_reads (of_kind (is_sum_op)) view.term (reader g.term c.args.self.now.wide c.args.self.now.depth) c.repeat.ensures (λ old new r post. search (rules, of_calls))
+returns o c = repeated_reads (of_kind (is_sum_op)) named_term (reader g.term c.args.self.now.wide c.args.self.now.depth) c.repeat.ensures (λ old new r post. search (rules, of_calls))

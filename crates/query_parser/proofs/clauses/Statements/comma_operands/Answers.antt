@@ -1,12 +1,13 @@
 use Rattle.std.proofs.Common.{rules, of_calls}
+use Rattle.query_tree.specs.NamedViews.{named_operand}
 use Rattle.query_grammar.specs.declared.word.Kind.TheVariants as k
 use Rattle.query_grammar.specs.Classes.{is}
 use Rattle.query_grammar.specs.Languages.{of_kind}
 use Rattle.query_grammar.specs.Grammar as g
 use Rattle.grammar_parts.proofs.TurnLemmas.{repeated_reads}
-use Rattle.expression_parser.specs.Views.{reader, operand}
+use Rattle.expression_parser.specs.Views.{reader}
 use Rattle.query_parser.proofs.clauses.Statements.comma_operands.Goals as goal
 
 pub returns : goal.returns
 unfolding g.comma_operands
-returns o c = repeated_reads (of_kind (is k.Comma)) operand (reader g.comma_operand c.args.self.now.parts.wide c.args.self.now.parts.depth) c.repeat.ensures (λ old new r post. search (rules, of_calls))
+returns o c = repeated_reads (of_kind (is k.Comma)) named_operand (reader g.comma_operand c.args.self.now.parts.wide c.args.self.now.parts.depth) c.repeat.ensures (λ old new r post. search (rules, of_calls))

@@ -1,13 +1,13 @@
 use Rattle.std.proofs.Common.{rules, of_calls}
+use Rattle.query_tree.specs.NamedViews.{named_group_var}
 use Rattle.query_grammar.specs.declared.word.Kind.TheVariants as k
 use Rattle.query_grammar.specs.Classes.{is}
 use Rattle.query_grammar.specs.Languages.{of_kind}
 use Rattle.query_grammar.specs.Grammar as g
 use Rattle.grammar_parts.proofs.TurnLemmas.{list_reads}
 use Rattle.expression_parser.specs.Views.{reader}
-use Rattle.query_parser.specs.Views as view
 use Rattle.query_parser.proofs.clauses.Statements.group_vars.Goals as goal
 
 pub returns : goal.returns
 unfolding g.group_vars
-returns o c = list_reads (of_kind (is k.Comma)) view.group_var (reader g.group_var c.args.self.now.parts.wide c.args.self.now.parts.depth) c.list.ensures (λ old new r post. search (rules, of_calls))
+returns o c = list_reads (of_kind (is k.Comma)) named_group_var (reader g.group_var c.args.self.now.parts.wide c.args.self.now.parts.depth) c.list.ensures (λ old new r post. search (rules, of_calls))
