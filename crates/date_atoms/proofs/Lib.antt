@@ -1,1 +1,4 @@
 mod CivilDays
+mod DigitTexts
+mod TailTexts
+mod SaidTexts

@@ -3,5 +3,13 @@
 #![tactic(auto)]
 
 mod days;
+mod digits;
+mod fronts;
+mod read;
+mod tails;
 
 pub use days::{add_days, day_number};
+pub use read::{read_date, read_date_time};
+
+#[cfg(test)]
+mod tests;
