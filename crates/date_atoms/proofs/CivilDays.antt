@@ -5,13 +5,14 @@ use Rattle.std.proofs.lemmas.Int.{ints}
 use Rattle.jiff_core.specs.Calendar.{days_from_civil, days_of_years as civil_years, days_of_months as civil_months, day_count as civil_count, days_in_year as civil_year}
 use Rattle.jiff_core.specs.Date.{epoch_day}
 use Rattle.jiff_core.specs.declared.civil.date.Date.{Date as CivilDate}
+use Rattle.jiff_core.proofs.CalendarLemmas.{days_of_months_all}
 use Rattle.jiff_core.proofs.SignedLemmas.{signed_arith}
 use Rattle.jiff_core.proofs.DateLemmas.{epoch_day_injective, epoch_day_range}
 use Rattle.item_tree.specs.Dates.{Date, IsDate, days_in_year, days_in_month, days_of_years, days_of_months, day_count, day_number, first_of_1970}
 use Rattle.date_atoms.specs.Sums.{IsDaysLater}
 use Rattle.date_atoms.specs.inside.Civil.{IsCivil}
 
-next_year : (n : ℕ) → days_of_years (suc n) ≡ days_of_years n + days_in_year (suc n)
+pub next_year : (n : ℕ) → days_of_years (suc n) ≡ days_of_years n + days_in_year (suc n)
 unfolding days_of_years
 next_year n = refl
 
@@ -76,7 +77,7 @@ only_number date d h e =
     let same = epoch_day_injective date (civil_of d h) (sym e ∙ same_number d h) in
     (h, (same.0, ap pos same.1, ap pos same.2))
 
-first_count : day_count first_of_1970 ≡ 719163
+pub first_count : day_count first_of_1970 ≡ 719163
 unfolding day_count days_of_years days_of_months
 first_count = refl
 
@@ -103,3 +104,14 @@ match_later (Some e) date later d days start sum h =
 pub within : (a b n : ℤ) → (negsuc 719161 ≤ℤ a) × (a ≤ℤ pos 2932896) → (negsuc 719161 ≤ℤ b) × (b ≤ℤ pos 2932896) → b ≡ a +ℤ n → unsigned_abs n ≤ 3652058
 within a b (pos n) h k e = omega (arith, signed_arith, h, k, e)
 within a b (negsuc n) h k e = omega (arith, signed_arith, h, k, e)
+
+-- no two dates have one number
+pub one_date : (d e : Date) → IsDate d → IsDate e → day_number d ≡ day_number e → d ≡ e
+unfolding civil_of
+one_date d e h k n =
+    let same = epoch_day_injective (civil_of d h) (civil_of e k) (sym (same_number d h) ∙ n ∙ same_number e k) in
+    let y : d.year ≡ e.year = omega (arith, ints, same.0) in
+    (λ i. record { year = y i; month = same.1 i; day = same.2 i })
+
+pub months_of_year : (y : ℕ) → days_of_months y 12 ≡ days_in_year y
+months_of_year y = sym (same_months y 12) ∙ days_of_months_all (pos y)

@@ -2,3 +2,5 @@ mod CivilDays
 mod DigitTexts
 mod TailTexts
 mod SaidTexts
+mod DayRange
+mod PrintedTexts

@@ -1,13 +1,12 @@
 -- The fraction and the offset at the end of a text.
-use Rattle.std.proofs.Common.{◌≡◌, ℕ, zero, suc, ◌+◌, ◌-◌, ◌*◌, ◌^◌, ◌<◌, ◌≤◌, Bool, true, false, ◌&&◌, cond, List, [], ◌∷◌, ◌++◌, length, take, drop, refl, sym, ap, subst, ◌∙◌, arith, ℤ, pos, ◌-ℤ◌}
+use Rattle.std.proofs.Common.{◌≡◌, ℕ, zero, suc, ◌+◌, ◌-◌, ◌*◌, ◌^◌, ◌<◌, ◌≤◌, true, false, cond, List, [], ◌∷◌, ◌++◌, length, take, drop, refl, sym, ap, subst, ◌∙◌, arith, ℤ, pos, ◌-ℤ◌}
 use Rattle.std.specs.List.{list_all, prefix_len}
 use Rattle.std.specs.Char.{is_ascii_digit}
-use Rattle.std.proofs.Math.Nat.{pow-le-pow_right}
 use Rattle.std.proofs.Math.Seq.{take-append_seam}
 use Rattle.std.proofs.lemmas.Bool.{and_parts}
 use Rattle.std.proofs.lemmas.Bool.Decides.{nat_tests}
 use Rattle.item_tree.specs.Digits.{last_digits}
-use Rattle.date_atoms.specs.Texts.{Fraction, no_fraction, fraction, IsFraction, fraction_text, fraction_nanos, Offset, no_offset, utc, ahead, behind, IsOffset, offset_text, offset_minutes, minutes_text}
+use Rattle.date_atoms.specs.Texts.{Fraction, no_fraction, fraction, fraction_text, fraction_nanos, Offset, no_offset, utc, ahead, behind, offset_text, offset_minutes, minutes_text}
 use Rattle.date_atoms.specs.inside.Fronts.{IsNumber, IsFractionText, IsOffsetText, IsTail, is_fraction_byte}
 use Rattle.date_atoms.proofs.DigitTexts.{length_digits, all_digits}
 

@@ -1,14 +1,18 @@
 ghost use Rattle.std.specs.Prelude.{◌≡◌, MatchOption};
 ghost use Rattle.item_tree.specs.Dates.{Date, day_number};
-ghost use Rattle.date_atoms.specs.Sums.{IsDaysLater};
+ghost use Rattle.date_atoms.specs.Sums.{IsDayNumber, IsDaysLater};
 ghost use Rattle.date_atoms.specs.inside.Civil.{IsCivil};
 
 use item_tree::Day;
 use jiff::{ToSpan, civil};
 
+// The days from the first date to the last. A span of `jiff` holds as many.
+const MOST_DAYS: u128 = 3_652_058;
+
 /// How many days after 1970-01-01 the date lies; less than 0 before it.
 pub fn day_number(day: &Day) -> i32
-    ensures { result ≡ day_number day.now }
+    ensures value { result ≡ day_number day.now }
+    ensures within { IsDayNumber result }
 {
     civil_date(day).to_plain().to_unix_epoch_day()
 }
@@ -20,8 +24,7 @@ pub fn add_days(day: &Day, days: i128) -> Option<Day>
         (IsDaysLater day.now days) }
 {
     let date = civil_date(day);
-    // No two dates lie further apart, and a span holds no more than twice as many.
-    if days.unsigned_abs() > 3_652_058 {
+    if days.unsigned_abs() > MOST_DAYS {
         return None;
     }
     match date.checked_add((days as i64).days()) {

@@ -34,13 +34,10 @@ fn clock_front(bytes: &[u8]) -> Option<(u32, &[u8])>
     if time.first > 23 || time.second > 59 || time.third > 59 {
         return None;
     }
-    Some((
-        time.first * 3600 + time.second * 60 + time.third,
-        time.rest,
-    ))
+    Some((time.first * 3600 + time.second * 60 + time.third, time.rest))
 }
 
-/// The time of day behind a `T` that stands first, as seconds since midnight, and what is behind it.
+/// The time of day behind a `T`, as seconds since midnight, and what is behind it.
 pub(crate) fn time_front(bytes: &[u8]) -> Option<(u32, &[u8])>
     ensures { MatchOption result
         ((s : ℕ) (rest : List ℕ) → ¬ IsTimeFront bytes.now s rest)

@@ -5,6 +5,7 @@
 mod days;
 mod digits;
 mod fronts;
+pub mod laws;
 mod read;
 mod tails;
 

@@ -9,6 +9,7 @@ use crate::tails::tail_of;
 use item_tree::{Day, Moment};
 
 const DATE_LEN: usize = 10;
+
 const NANOS_OF_DAY: i64 = 86_400_000_000_000;
 
 /// The date that the text says: `YYYY-MM-DD`, with nothing round it. `None` exactly where it says
@@ -39,7 +40,7 @@ pub fn read_date_time(text: &str) -> Option<Moment>
     moment_since(day, nanos_in_utc(seconds, fraction, ahead))
 }
 
-// The nanoseconds from a midnight in UTC, of what a clock shows that is so many minutes ahead of UTC.
+// The nanoseconds from a midnight in UTC to what a clock shows that is so many minutes ahead.
 fn nanos_in_utc(seconds: u32, fraction: u32, ahead: i32) -> i64
     requires { unsigned_abs ahead < 1440 }
     ensures { result

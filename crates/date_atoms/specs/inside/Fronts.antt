@@ -13,11 +13,15 @@ abbrev pub IsNumberFront : ℕ → List ℕ → ℕ → List ℕ → Type 0
 IsNumberFront count bytes n rest = (n < 10 ^ count) × (bytes ≡ last_digits count n ++ rest)
 
 -- three numbers with a mark before the second and the third, which have two digits
+abbrev pub triple_text : ℕ → ℕ → ℕ → ℕ → ℕ → List ℕ → List ℕ
+triple_text width mark a b c rest =
+    last_digits width a ++ (mark ∷ (last_digits 2 b ++ (mark ∷ (last_digits 2 c ++ rest))))
+
 abbrev pub IsTriple : ℕ → ℕ → List ℕ → ℕ → ℕ → ℕ → List ℕ → Type 0
 IsTriple width mark bytes a b c rest =
-    (a < 10 ^ width) × (b < 100) × (c < 100)
-    × (bytes ≡ last_digits width a ++ (mark ∷ (last_digits 2 b ++ (mark ∷ (last_digits 2 c ++ rest)))))
+    (a < 10 ^ width) × (b < 100) × (c < 100) × (bytes ≡ triple_text width mark a b c rest)
 
+-- seconds since midnight
 abbrev pub IsClockFront : List ℕ → ℕ → List ℕ → Type 0
 IsClockFront bytes s rest = (s < 86400) × (bytes ≡ clock_text s ++ rest)
 

@@ -8,8 +8,8 @@ use Rattle.item_tree.specs.Dates.{day_number}
 use Rattle.date_atoms.proofs.CivilDays.{number_is, number_range, within, match_later}
 use Rattle.date_atoms.proofs.days.add_days.Goals as goal
 
-pub returns-then-unsigned_abs-gt3652058 : goal.returns-then-unsigned_abs-gt3652058
-returns-then-unsigned_abs-gt3652058 c = λ d h.
+pub returns-then-unsigned_abs-gt-MOST_DAYS : goal.returns-then-unsigned_abs-gt-MOST_DAYS
+returns-then-unsigned_abs-gt-MOST_DAYS c = λ d h.
     let a = number_range c.args.day.now c.civil_date-date.ensures.0 in
     let b = number_range d h.0 in
     let size = rw (to_z-back c.ranges.days) at c.unsigned_abs.ensures.value in

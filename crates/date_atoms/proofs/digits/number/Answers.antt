@@ -20,4 +20,4 @@ pub loop-digit-preserved : goal.loop-digit-preserved
 loop-digit-preserved c =
     let within = digit_bounds _ (sym c.is_ascii_digit.ensures.value ∙ c.if-not-is_ascii_digit.false) in
     let more = rw (← c.from.ensures) at (digit_more c.args.digits.now c.loop-digit.digit-index c.loop-digit.n _ c.loop-digit-test.true refl within.0 within.1 c.loop-digit.invariant.small c.loop-digit.invariant.spelled) in
-    record { small = more.0; spelled = more.1; }
+    record { small = more.0; spelled = more.1 }

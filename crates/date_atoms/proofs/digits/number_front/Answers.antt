@@ -1,4 +1,3 @@
-use Rattle.std.proofs.Common.{sym, ◌∙◌, arith, refl}
 use Rattle.date_atoms.proofs.DigitTexts.{no_shorter, front_missed}
 use Rattle.date_atoms.proofs.digits.number_front.Goals as goal
 

@@ -1,4 +1,4 @@
-use Rattle.std.proofs.Common.{arith, w32, ℤ, pos, ◌-ℤ◌, ap, ◌∙◌, ◌≡◌, FitsSigned, to_z, to_z-of_z}
+use Rattle.std.proofs.Common.{arith, w32, pos, ◌-ℤ◌, ap, ◌∙◌, ◌≡◌, FitsSigned, to_z, to_z-of_z}
 use Rattle.std.proofs.lemmas.Int.{ints, to_z_pos}
 use Rattle.date_atoms.proofs.TailTexts.{behind_made}
 use Rattle.date_atoms.proofs.tails.behind.Goals as goal

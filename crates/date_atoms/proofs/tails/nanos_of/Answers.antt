@@ -1,4 +1,4 @@
-use Rattle.std.proofs.Common.{arith, ap, ◌*◌, ◌<◌, ◌^◌, ◌≤◌, length}
+use Rattle.std.proofs.Common.{arith, ap, ◌*◌, ◌≤◌, length}
 use Rattle.std.proofs.lemmas.Bool.Decides.{nat_tests}
 use Rattle.date_atoms.proofs.TailTexts.{counted, fraction_made, scaled}
 use Rattle.date_atoms.proofs.tails.nanos_of.Goals as goal

@@ -1,0 +1,29 @@
+-- Laws of day numbers and of texts.
+use Rattle.std.specs.Prelude.{◌≡◌, ℕ, ℤ, pos, negsuc, List}
+use Rattle.item_tree.specs.Dates.{Date, DateTime, IsDate, IsDateTime, day_number, date_text, date_time_text}
+use Rattle.date_atoms.specs.Sums.{IsDayNumber}
+use Rattle.date_atoms.specs.Texts.{IsDateText, IsDateTimeText}
+
+abbrev pub first_date : Date
+first_date = record { year = 1; month = 1; day = 1 }
+
+abbrev pub last_date : Date
+last_date = record { year = 9999; month = 12; day = 31 }
+
+-- the ends of the range; each date has a number in it, no two dates have the same, and each number
+-- in it is a date's
+pub record DaysAreReached : Type 0 where
+  pub first : day_number first_date ≡ negsuc 719_161
+  pub last : day_number last_date ≡ pos 2_932_896
+  pub within : (d : Date) → IsDate d → IsDayNumber (day_number d)
+  pub apart : (d e : Date) → IsDate d → IsDate e → day_number d ≡ day_number e → d ≡ e
+  pub reached : (n : ℤ) → IsDayNumber n → (d : Date) × IsDate d × (day_number d ≡ n)
+
+pub record TextsSayOne : Type 0 where
+  pub date : (d e : Date) (text : List ℕ) → IsDateText d text → IsDateText e text → d ≡ e
+  pub date_time : (t u : DateTime) (text : List ℕ) → IsDateTimeText t text
+      → IsDateTimeText u text → t ≡ u
+
+pub record PrintedTextsAreRead : Type 0 where
+  pub date : (d : Date) → IsDate d → IsDateText d (date_text d)
+  pub date_time : (t : DateTime) → IsDateTime t → IsDateTimeText t (date_time_text t)
