@@ -4,3 +4,4 @@ mod TailTexts
 mod SaidTexts
 mod DayRange
 mod PrintedTexts
+mod TextRows
