@@ -31,7 +31,7 @@ last_count : day_count last_date ≡ 3652059
 unfolding day_count days_of_years days_of_months
 last_count = refl
 
-month_length : (y m : ℕ) → (28 ≤ days_in_month y m) × (days_in_month y m ≤ 31)
+pub month_length : (y m : ℕ) → (28 ≤ days_in_month y m) × (days_in_month y m ≤ 31)
 month_length y m = grind arith
 
 abbrev Counts : ℕ → Type 0

@@ -5,3 +5,4 @@ mod SaidTexts
 mod DayRange
 mod PrintedTexts
 mod TextRows
+mod DecidedTexts

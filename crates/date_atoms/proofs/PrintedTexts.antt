@@ -116,7 +116,7 @@ printed_moment t h =
     (s, (h.0, omega (arith, h.1), f.1, tt), text, (h, ap (λ z. nanos_since t.date z) nanos))
 
 -- days and nanoseconds below a day are those of one number
-one_split : (a b : ℤ) (m n : ℕ) → m < 86400 * 10 ^ 9 → n < 86400 * 10 ^ 9 → (a *ℤ pos (86400 * 10 ^ 9) +ℤ pos m) ≡ (b *ℤ pos (86400 * 10 ^ 9) +ℤ pos n) → (a ≡ b) × (m ≡ n)
+pub one_split : (a b : ℤ) (m n : ℕ) → m < 86400 * 10 ^ 9 → n < 86400 * 10 ^ 9 → (a *ℤ pos (86400 * 10 ^ 9) +ℤ pos m) ≡ (b *ℤ pos (86400 * 10 ^ 9) +ℤ pos n) → (a ≡ b) × (m ≡ n)
 one_split a b m n h k e = (omega (arith, signed_arith, h, k, e), omega (arith, signed_arith, h, k, e))
 
 one_moment : (t u : DateTime) (text : List ℕ) → IsDateTimeText t text → IsDateTimeText u text → t ≡ u

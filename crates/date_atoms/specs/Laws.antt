@@ -1,5 +1,5 @@
 -- Laws of day numbers and of texts.
-use Rattle.std.specs.Prelude.{◌≡◌, ℕ, ℤ, pos, negsuc, List}
+use Rattle.std.specs.Prelude.{◌≡◌, ◌⊎◌, ℕ, ℤ, pos, negsuc, List}
 use Rattle.item_tree.specs.Dates.{Date, DateTime, IsDate, IsDateTime, day_number, date_text, date_time_text}
 use Rattle.date_atoms.specs.Sums.{IsDayNumber}
 use Rattle.date_atoms.specs.Texts.{IsDateText, IsDateTimeText}
@@ -27,3 +27,9 @@ pub record TextsSayOne : Type 0 where
 pub record PrintedTextsAreRead : Type 0 where
   pub date : (d : Date) → IsDate d → IsDateText d (date_text d)
   pub date_time : (t : DateTime) → IsDateTime t → IsDateTimeText t (date_time_text t)
+
+-- each text says a date or none, and a moment or none
+pub record TextsAreDecided : Type 0 where
+  pub date : (text : List ℕ) → ((d : Date) × IsDateText d text) ⊎ ((d : Date) → ¬ IsDateText d text)
+  pub date_time : (text : List ℕ) → ((t : DateTime) × IsDateTimeText t text)
+      ⊎ ((t : DateTime) → ¬ IsDateTimeText t text)

@@ -1,7 +1,7 @@
--- Which texts say a date or a date-time. They are written as in ISO 8601's extended format, by the
--- names of RFC 3339: full-date; and full-date, `T`, partial-time and time-offset. Other than there
--- the offset may be left out, which means UTC; a fraction has nine digits at most; no second is 60;
--- no letter is small; and the years are those of the calendar.
+-- Which texts say a date or a date-time. They are written in ISO 8601's extended format, by the
+-- productions of RFC 3339, section 5.6: full-date; and full-date, `T`, partial-time and
+-- time-offset. Other than there the offset may be left out, which means UTC; a fraction has nine
+-- digits at most; no second is 60; letters are capitals; and the year 0 is none.
 use Rattle.std.specs.Prelude.{◌≡◌, ℕ, ◌+◌, ◌-◌, ◌*◌, ◌/◌, ◌%◌, ◌^◌, ◌<◌, ℤ, pos, ◌+ℤ◌, ◌-ℤ◌, ◌*ℤ◌, List, [], ◌∷◌, ◌++◌}
 use Rattle.std.specs.Int.{IsInRange}
 use Rattle.item_tree.specs.Digits.{last_digits}
@@ -83,11 +83,15 @@ said_text s =
 abbrev pub nanos_since : Date → ℤ → ℤ
 nanos_since d n = day_number d *ℤ pos nanos_of_day +ℤ n
 
+-- what the clock shows, as nanoseconds since its midnight
+abbrev pub shown_nanos : Said → ℕ
+shown_nanos s = s.clock * 10 ^ 9 + fraction_nanos s.fraction
+
 -- what is said, in UTC: what the clock shows less what it is ahead
 abbrev pub said_nanos : Said → ℤ
 said_nanos s =
-    nanos_since s.date (pos (s.clock * 10 ^ 9 + fraction_nanos s.fraction)
-    -ℤ offset_minutes s.offset *ℤ pos (60 * 10 ^ 9))
+    nanos_since s.date
+    (pos (shown_nanos s) -ℤ offset_minutes s.offset *ℤ pos (60 * 10 ^ 9))
 
 -- a moment that is so many nanoseconds after 1970-01-01
 abbrev pub IsMomentAt : ℤ → DateTime → Type 0

@@ -1,7 +1,7 @@
 //! Laws of the definitions that contracts cite. Each holds of all values: a call brings it to a
 //! proof, and does nothing when it runs.
 
-ghost use Rattle.date_atoms.specs.Laws.{DaysAreReached, TextsSayOne, PrintedTextsAreRead};
+ghost use Rattle.date_atoms.specs.Laws.{DaysAreReached, TextsSayOne, TextsAreDecided, PrintedTextsAreRead};
 
 /// Each date has a day number of its own from that of 0001-01-01 to that of 9999-12-31, and each
 /// number from the one to the other is a date's.
@@ -12,6 +12,11 @@ pub fn days_are_reached()
 /// A text says one date at most, and one moment at most.
 pub fn texts_say_one()
     ensures { TextsSayOne }
+{}
+
+/// A text says a date or none, and a moment or none.
+pub fn texts_are_decided()
+    ensures { TextsAreDecided }
 {}
 
 /// The text of a date says that date, and the text of a moment that moment.

@@ -185,5 +185,6 @@ fn refuses_moments(rt: HostRuntime) {
 fn knows_laws(_rt: HostRuntime) {
     laws::days_are_reached();
     laws::texts_say_one();
+    laws::texts_are_decided();
     laws::printed_texts_are_read();
 }
