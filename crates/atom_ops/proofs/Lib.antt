@@ -1,0 +1,5 @@
+pub mod ToldLemmas
+pub mod OperandLemmas
+pub mod RangeLemmas
+pub mod TextLemmas
+pub mod CastLemmas

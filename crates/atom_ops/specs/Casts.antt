@@ -1,0 +1,140 @@
+-- Casts of one atomic.
+use Rattle.std.specs.Prelude.{ℕ, ◌-◌, ◌==◌, nat_lt, pos, Bool, true, false, ◌&&◌, ◌||◌, if◌then◌else◌, List, [], ◌∷◌, length, take, drop, codes, Option, Some, None, Result, Ok, Err}
+use Rattle.std.specs.Char.{is_ascii_digit}
+use Rattle.std.specs.List.{list_all, prefix_len, suffix_len}
+use Rattle.std.specs.Str.{bytes_eq, encode_utf8_all}
+use Rattle.item_tree.specs.declared.code.Code.{Code}
+use Rattle.item_tree.specs.declared.code.Code.TheVariants.{XPTY0004, FOAR0002, FORG0001}
+use Rattle.item_tree.specs.Datum.{Datum, null, boolean, integer, decimal, text}
+use Rattle.item_tree.specs.ItemText.{atom_text}
+use Rattle.item_tree.specs.Truth.{is_not_zero}
+use Rattle.num_fixed.specs.Fronts.{sign_first, fraction_of}
+use Rattle.num_fixed.specs.Numeral.{Numeral}
+use Rattle.num_fixed.specs.Rounding.{units_of}
+use Rattle.num_fixed.specs.Scan.{behind_sign, digits_len}
+use Rattle.num_fixed.specs.Values.{number_in_bounds, said, whole_of}
+use Rattle.num_fixed.specs.declared.number.Number.{Number}
+use Rattle.num_fixed.specs.declared.number.Number.TheVariants.{Int, Dec}
+use Rattle.atom_ops.specs.Arithmetic.{number_datum}
+use Rattle.atom_ops.specs.Operands.{and_then, one_atomic}
+
+-- ---- the texts of numbers
+
+-- a space, a tab, a carriage return or a line feed
+abbrev pub is_blank : ℕ → Bool
+is_blank c = (c == 32) || (c == 9) || (c == 13) || (c == 10)
+
+abbrev pub without_last_blanks : List ℕ → List ℕ
+without_last_blanks l = take (length l - suffix_len is_blank l) l
+
+-- a text in UTF-8 without the blanks round it
+abbrev pub trimmed : List ℕ → List ℕ
+trimmed l = without_last_blanks (drop (prefix_len is_blank l) l)
+
+abbrev pub bare : List ℕ → List ℕ
+bare t = trimmed (encode_utf8_all t)
+
+-- the digits behind a point; some, where none stand before it
+abbrev pub is_fraction : Bool → List ℕ → Bool
+is_fraction some ds = list_all is_ascii_digit ds && (some || nat_lt 0 (length ds))
+
+-- what may stand behind a sign and the digits before a point, where these are some: nothing, or a
+-- point and digits, if there may be a point
+abbrev pub ends_number : Bool → Bool → List ℕ → Bool
+ends_number point some [] = some
+ends_number point some (b ∷ ds) = (point && (b == 46)) && is_fraction some ds
+
+abbrev pub digits_front : List ℕ → List ℕ
+digits_front u = take (digits_len u) u
+
+abbrev pub behind_digits : List ℕ → List ℕ
+behind_digits u = drop (digits_len u) u
+
+abbrev pub is_plain_number : Bool → List ℕ → Bool
+is_plain_number point l =
+    let u = behind_sign l in ends_number point (nat_lt 0 (digits_len u)) (behind_digits u)
+
+abbrev pub plain_numeral : List ℕ → Numeral
+plain_numeral l = record {
+  sign = sign_first l;
+  int = digits_front (behind_sign l);
+  frac = fraction_of (behind_digits (behind_sign l));
+  exp = None;
+}
+
+abbrev pub in_bounds_or_over : Number → Result Number Code
+in_bounds_or_over x = if number_in_bounds x then Ok x else Err FOAR0002
+
+-- the number that a text is; a decimal is the nearest unit
+abbrev pub number_in : Bool → List ℕ → Result Number Code
+number_in point l =
+    if is_plain_number point l then in_bounds_or_over (said (plain_numeral l)) else Err FORG0001
+
+-- ---- what an atomic is cast to
+
+abbrev pub as_decimal : Number → Number
+as_decimal (Int n) = Dec (units_of n)
+as_decimal (Dec m) = Dec m
+
+-- as an integer: a decimal without its part behind the point
+abbrev pub integer_from : Datum → Result Number Code
+integer_from (integer n) = Ok (Int n)
+integer_from (decimal m) = Ok (Int (whole_of m))
+integer_from (boolean true) = Ok (Int (pos 1))
+integer_from (boolean false) = Ok (Int (pos 0))
+integer_from (text t) = number_in false (bare t)
+integer_from _ = Err FORG0001
+
+abbrev pub decimal_from : Datum → Result Number Code
+decimal_from (integer n) = Ok (Dec (units_of n))
+decimal_from (decimal m) = Ok (Dec m)
+decimal_from (boolean true) = Ok (Dec (pos 1000000))
+decimal_from (boolean false) = Ok (Dec (pos 0))
+decimal_from (text t) = and_then (number_in true (bare t)) (λ x. Ok (as_decimal x))
+decimal_from _ = Err FORG0001
+
+abbrev pub truth_in : List ℕ → Result Bool Code
+truth_in l =
+    if bytes_eq l (codes "true") || bytes_eq l (codes "1") then Ok true else
+    if bytes_eq l (codes "false") || bytes_eq l (codes "0") then Ok false else Err FORG0001
+
+abbrev pub boolean_from : Datum → Result Bool Code
+boolean_from (boolean b) = Ok b
+boolean_from (integer n) = Ok (is_not_zero n)
+boolean_from (decimal m) = Ok (is_not_zero m)
+boolean_from (text t) = truth_in (bare t)
+boolean_from _ = Err FORG0001
+
+abbrev pub null_in : List ℕ → Result Datum Code
+null_in l = if bytes_eq l (codes "null") then Ok null else Err FORG0001
+
+abbrev pub string_cast : Datum → Result Datum Code
+string_cast v = Ok (text (atom_text v))
+
+abbrev pub integer_cast : Datum → Result Datum Code
+integer_cast v = and_then (integer_from v) (λ x. Ok (number_datum x))
+
+abbrev pub decimal_cast : Datum → Result Datum Code
+decimal_cast v = and_then (decimal_from v) (λ x. Ok (number_datum x))
+
+abbrev pub boolean_cast : Datum → Result Datum Code
+boolean_cast v = and_then (boolean_from v) (λ b. Ok (boolean b))
+
+abbrev pub null_cast : Datum → Result Datum Code
+null_cast null = Ok null
+null_cast (text t) = null_in (bare t)
+null_cast _ = Err FORG0001
+
+-- ---- casts of an operand
+
+-- where it may be empty, nothing is cast to nothing
+abbrev pub cast_operand : Bool → List Datum → Result (Option Datum) Code
+cast_operand optional [] = if optional then Ok None else Err XPTY0004
+cast_operand optional (v ∷ vs) = and_then (one_atomic (v ∷ vs)) (λ x. Ok (Some x))
+
+abbrev pub cast_of : (Datum → Result Datum Code) → Option Datum → Result (Option Datum) Code
+cast_of f None = Ok None
+cast_of f (Some v) = and_then (f v) (λ w. Ok (Some w))
+
+abbrev pub cast_by : (Datum → Result Datum Code) → Bool → List Datum → Result (Option Datum) Code
+cast_by f optional vs = and_then (cast_operand optional vs) (cast_of f)

@@ -1,0 +1,7 @@
+pub mod inside
+pub mod Operands
+pub mod Comparison
+pub mod Arithmetic
+pub mod Ranges
+pub mod Texts
+pub mod Casts

@@ -1,0 +1,5 @@
+mod arithmetic;
+mod casts;
+mod comparisons;
+mod operands;
+mod others;

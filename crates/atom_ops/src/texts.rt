@@ -1,0 +1,63 @@
+ghost use Rattle.std.specs.Prelude.{◌≡◌, ◌++◌, Ok, Err, MatchResult, IfOk, IfErr, IfSome, None, option_map};
+ghost use Rattle.item_tree.specs.Datum.{IsAtomic};
+ghost use Rattle.item_tree.specs.Item.{datum, datums};
+ghost use Rattle.atom_ops.specs.Operands.{optional_atomic, FailsWith};
+ghost use Rattle.atom_ops.specs.Texts.{optional_text, joined_texts};
+
+use crate::operand::one_atomic;
+use item_tree::{Code, Item, NoMemory, OpFault, Str, text_of};
+use std::alloc::Global;
+
+/// The texts of two operands, put together. Each operand is empty, which has the empty text, or one
+/// atomic.
+pub fn concat_text(alloc: Global, a: &[Item], b: &[Item]) -> Result<Item, OpFault>
+    ensures value { IfOk result (λ x. joined_texts (datums a.now) (datums b.now) ≡ Ok (datum x)) }
+    ensures fault { IfErr result (FailsWith (joined_texts (datums a.now) (datums b.now))) }
+{
+    let left = optional_atomic(a)?;
+    let right = optional_atomic(b)?;
+    Ok(Item::Text(joined(alloc, left, right)?))
+}
+
+fn optional_atomic(s: &[Item]) -> Result<Option<&Item>, Code>
+    ensures value { MatchResult result
+        (λ o. optional_atomic (datums s.now) ≡ Ok (option_map (λ x. datum x.now) o))
+        (λ e. optional_atomic (datums s.now) ≡ Err e) }
+    ensures atomic { IfOk result (λ o. IfSome o (λ x. IsAtomic (datum x.now))) }
+{
+    if s.is_empty() {
+        return Ok(None);
+    }
+    Ok(Some(one_atomic(s)?))
+}
+
+fn joined(alloc: Global, a: Option<&Item>, b: Option<&Item>) -> Result<Str, NoMemory>
+    requires left { IfSome a (λ x. IsAtomic (datum x.now)) }
+    requires right { IfSome b (λ x. IsAtomic (datum x.now)) }
+    ensures { IfOk result
+        (λ s. s ≡ optional_text (option_map (λ x. datum x.now) a.entry)
+        ++ optional_text (option_map (λ x. datum x.now) b.entry)) }
+{
+    let left = optional_text(alloc, a)?;
+    let right = optional_text(alloc, b)?;
+    appended(alloc, &left, &right)
+}
+
+#[tactic(auto, using(crate::proofs::TextLemmas::joined_chars))]
+fn appended(alloc: Global, left: &Str, right: &Str) -> Result<Str, NoMemory>
+    ensures { IfOk result (λ s. s ≡ left.now ++ right.now) }
+{
+    let mut text = String::from_str(alloc, left.as_str())?;
+    text.push_str(right.as_str())?;
+    Str::from_string(alloc, text)
+}
+
+fn optional_text(alloc: Global, x: Option<&Item>) -> Result<Str, NoMemory>
+    requires { IfSome x (λ y. IsAtomic (datum y.now)) }
+    ensures { IfOk result (λ s. s ≡ optional_text (option_map (λ y. datum y.now) x.entry)) }
+{
+    match x {
+        None => Str::of(alloc, ""),
+        Some(atom) => text_of(alloc, atom),
+    }
+}
