@@ -383,7 +383,7 @@ def write_bound_views():
     imports.append("use Rattle.seq_types.specs.declared.types.SeqType.{SeqType}")
     imports.append("use Rattle.query_tree.specs.Bound.{BoundTree}")
     modules = {"Variable": "variable", "Function": "function"}
-    write_views("bound", BOUND, "-- Compiled trees as plain values; of a whole query in Compiled.antt.", imports, modules)
+    write_views("bound", BOUND, "-- Compiled trees as plain values; that of a whole query stands in Compiled.antt.", imports, modules)
 
 
 GENERIC = [f"A{i}" for i in range(len(ORDER))]

@@ -1,5 +1,5 @@
 -- Written by tools/plain_trees.py from the types of src/. Change those, and run it again.
--- Compiled trees as plain values; of a whole query in Compiled.antt.
+-- Compiled trees as plain values; that of a whole query stands in Compiled.antt.
 use Rattle.std.specs.Prelude.{List, map, Option}
 use Rattle.std.specs.declared.alloc.Global.{Global}
 use Rattle.std.specs.declared.boxed.Box.{Box}

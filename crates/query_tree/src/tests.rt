@@ -1,6 +1,4 @@
-use crate::{
-    BoundModule, Clause, Compiled, Expr, Kind, NamedExpr, Placed, Slot, SumOp, Term, discard,
-};
+use crate::{BoundModule, Clause, Compiled, Expr, Kind, NamedExpr, Placed, Slot, SumOp, Term};
 use item_tree::Whole;
 use std::alloc::Global;
 use std::test::Fail;
@@ -136,24 +134,6 @@ fn body_lent(query: &Compiled) -> Option<(usize, u32, u32)> {
 fn compiled_made(alloc: Global) -> Result<(usize, Option<(usize, u32, u32)>), Fail> {
     let query = compiled(alloc)?;
     Ok((query.width(), body_lent(&query)))
-}
-
-// Threads may share it.
-fn shared<T: Sync>(value: &T) -> &T {
-    value
-}
-
-fn width_shared(alloc: Global) -> Result<usize, Fail> {
-    let query = compiled(alloc)?;
-    let width = shared(&query).width();
-    discard(query);
-    Ok(width)
-}
-
-#[test]
-fn is_shared_between_threads(rt: HostRuntime) -> Result<(), Fail> {
-    assert_eq!(rt; width_shared(rt.alloc())?, 1);
-    Ok(())
 }
 
 #[test]

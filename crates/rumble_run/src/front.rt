@@ -1,6 +1,6 @@
 ghost use Rattle.std.specs.Prelude.{◌≡◌, IfSome};
 ghost use Rattle.item_tree.specs.Faults.{fault_at};
-ghost use Rattle.static_rules.specs.Outcomes.{named_query};
+ghost use Rattle.query_tree.specs.NamedViews.{named_query};
 ghost use Rattle.rumble_run.specs.Front.{IsFront, IsFrontOfText, static_front};
 ghost use Rattle.rumble_run.specs.inside.Seen.{front_of};
 

@@ -2,7 +2,6 @@
 use Rattle.std.specs.Prelude.{◌≡◌, Some, None}
 use Rattle.query_tree.specs.Compiled.{CompiledTree, bound_trees}
 use Rattle.query_tree.specs.NamedViews.{NamedQuery}
-pub use Rattle.query_tree.specs.NamedViews.{named_query}
 use Rattle.static_rules.specs.Rules.{code_of}
 use Rattle.static_rules.specs.Refusals.{refusal}
 use Rattle.static_rules.specs.Compiling.{compiled_query, query_width}

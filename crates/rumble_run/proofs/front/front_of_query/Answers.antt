@@ -1,6 +1,6 @@
 use Rattle.std.proofs.Common.{◌≡◌, Err, sym, subst}
 use Rattle.std.specs.Prelude.{IfSome}
-use Rattle.static_rules.specs.Outcomes.{named_query}
+use Rattle.query_tree.specs.NamedViews.{named_query}
 use Rattle.rumble_run.specs.Front.{static_front}
 use Rattle.rumble_run.specs.inside.Seen.{front_of}
 use Rattle.rumble_run.proofs.Fronts.{compiles, refuses}
