@@ -3,3 +3,4 @@ pub mod OperandLemmas
 pub mod RangeLemmas
 pub mod TextLemmas
 pub mod CastLemmas
+pub mod PlainTexts

@@ -5,3 +5,4 @@ pub mod Arithmetic
 pub mod Ranges
 pub mod Texts
 pub mod Casts
+pub mod Laws

@@ -4,6 +4,7 @@
 mod arithmetic;
 mod casts;
 mod comparison;
+pub mod laws;
 mod number_texts;
 mod operand;
 mod ranges;

@@ -1,5 +1,7 @@
 use crate::tests::operands::{code_cell, number, one, operands};
-use crate::{cast_to_boolean, cast_to_decimal, cast_to_integer, cast_to_null, cast_to_string};
+use crate::{
+    cast_to_boolean, cast_to_decimal, cast_to_integer, cast_to_null, cast_to_string, laws,
+};
 use item_tree::{Code, Item, OpFault, Str, text_of};
 use std::alloc::Global;
 use std::test::Fail;
@@ -153,4 +155,9 @@ fn casts_numbers(rt: HostRuntime) -> Result<(), Fail> {
         assert_eq!(rt; found.as_str(), *want, "false as {to}");
     }
     Ok(())
+}
+
+#[test]
+fn has_laws() {
+    laws::texts_of_numbers();
 }
