@@ -16,6 +16,8 @@ use Rattle.rumble_run.specs.inside.Reads.{OpenedTo, files_of_name}
 use Rattle.rumble_run.specs.declared.status.Status.TheVariants.{NoQuery}
 use Rattle.rumble_run.specs.declared.status.Stop.{Stop}
 use Rattle.rumble_run.specs.declared.words.Task.{Task}
+use Rattle.rumble_run.specs.declared.words.Task.TheVariants.{Run, Check}
+use Rattle.item_tree.specs.declared.fault.Fault.{Fault}
 use Rattle.rumble_run.proofs.Computing.{front_answered, only_of_front}
 use Rattle.rumble_run.proofs.Fronts.{front_is, only_front}
 
@@ -153,3 +155,14 @@ pub of_front_opened : {T : Type 0} (result : Result T Stop) (world : Option Worl
 of_front_opened result None task query front before after is h = tt
 of_front_opened result (Some w) task query front before after is h = λ other it.
     subst (λ f. OpenedTo result (length (inputs_opened task w f)) before after) (only_front query front other is it) h
+
+none_opened : (task : Task) (w : World) (fault : Fault) → inputs_opened task w (Err fault) ≡ []
+none_opened Run w fault = refl
+none_opened Check w fault = refl
+
+pub refused_opened : (world : Option World) (task : Task) (query : List ℕ) (fault : Fault) (counts : InputCounts) → IsFront query (Err fault)
+    → IfSome world (λ w. (other : Front) → IsFront query other → OpenedJust (length (inputs_opened task w other)) counts counts)
+refused_opened None task query fault counts is = tt
+refused_opened (Some w) task query fault counts is = λ other it.
+    let none : inputs_opened task w other ≡ [] = ap (inputs_opened task w) (only_front query other (Err fault) it is) ∙ none_opened task w fault in
+    subst (λ fs. OpenedJust (length fs) counts counts) (sym none) (omega arith, λ h. omega arith)

@@ -1,6 +1,7 @@
-use Rattle.std.proofs.Common.{Err}
+use Rattle.std.proofs.Common.{Ok, Err}
 use Rattle.rumble_run.specs.Front.{IsFront}
 use Rattle.rumble_run.specs.inside.Seen.{plain_of}
+use Rattle.rumble_run.proofs.Answered.{of_front_opened, refused_opened}
 use Rattle.rumble_run.proofs.Endings.{of_refusal, query_refused, query_ended}
 use Rattle.rumble_run.proofs.decide.of_query.Goals as goal
 
@@ -18,3 +19,13 @@ returns-in_ok-tells_refusal-in-Err-Refused-clause-value g c =
 pub returns-in_ok-tells_refusal-in-Err-Refused-clause-shape : goal.returns-in_ok-tells_refusal-in-Err-Refused-clause-shape
 returns-in_ok-tells_refusal-in-Err-Refused-clause-shape g c =
     of_refusal _ c.without_mark-text.result.now c.in-Err-Refused.fault (rw c.in-Err-Refused.field-0-is at c.in_ok-tells_refusal-in-Err-Refused.ensures)
+
+pub returns-in-Ok-clause-opened : goal.returns-in-Ok-clause-opened
+returns-in-Ok-clause-opened g c =
+    of_front_opened c.of_tree-ending.result (g.I.Inputs.world c.args.inputs.now) c.args.task c.args.query.now (Ok (plain_of c.in-Ok.tree)) (g.I.Inputs.counts c.args.inputs.now)
+    (g.I.Inputs.counts c.of_tree-ending.new.inputs) c.in-Ok.ensures c.of_tree-ending.ensures.opened
+
+pub returns-in_ok-tells_refusal-in-Err-Refused-clause-opened : goal.returns-in_ok-tells_refusal-in-Err-Refused-clause-opened
+returns-in_ok-tells_refusal-in-Err-Refused-clause-opened g c =
+    let front : IsFront c.args.query.now (Err c.in-Err-Refused.fault) = rw c.in-Err-Refused.field-0-is at c.in-Err-Refused.ensures in
+    refused_opened (g.I.Inputs.world c.args.inputs.now) c.args.task c.args.query.now c.in-Err-Refused.fault (g.I.Inputs.counts c.args.inputs.now) front
