@@ -14,7 +14,7 @@ use Rattle.num_fixed.specs.declared.number.Number.{Number}
 use Rattle.num_fixed.specs.declared.number.Number.TheVariants.{Int, Dec}
 use Rattle.atom_ops.specs.declared.arithmetic.Arith.{Arith}
 use Rattle.atom_ops.specs.declared.arithmetic.Arith.TheVariants.{Add, Sub, Mul, Div, Idiv, Mod}
-use Rattle.atom_ops.specs.Operands.{and_then, one_number}
+use Rattle.value_rules.specs.Operands.{and_then, one_number}
 
 abbrev pub number_of : Kind → ℤ → Number
 number_of Whole n = Int n

@@ -16,7 +16,7 @@ use Rattle.num_fixed.specs.Values.{number_in_bounds, said, whole_of}
 use Rattle.num_fixed.specs.declared.number.Number.{Number}
 use Rattle.num_fixed.specs.declared.number.Number.TheVariants.{Int, Dec}
 use Rattle.atom_ops.specs.Arithmetic.{number_datum}
-use Rattle.atom_ops.specs.Operands.{and_then, one_atomic}
+use Rattle.value_rules.specs.Operands.{and_then, one_atomic}
 
 -- ---- the texts of numbers
 

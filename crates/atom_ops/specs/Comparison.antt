@@ -8,7 +8,7 @@ use Rattle.item_tree.specs.Compare.{compare_atoms}
 use Rattle.item_tree.specs.Datum.{Datum}
 use Rattle.atom_ops.specs.declared.comparison.Cmp.{Cmp}
 use Rattle.atom_ops.specs.declared.comparison.Cmp.TheVariants.{Eq, Ne, Lt, Le, Gt, Ge}
-use Rattle.atom_ops.specs.Operands.{and_then, atomic, one_atomic}
+use Rattle.value_rules.specs.Operands.{and_then, atomic, one_atomic}
 
 -- whether a comparison holds of two atomics in this order
 abbrev pub holds : Cmp → Ordering → Bool

@@ -1,5 +1,4 @@
 pub mod inside
-pub mod Operands
 pub mod Comparison
 pub mod Arithmetic
 pub mod Ranges

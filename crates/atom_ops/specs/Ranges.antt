@@ -3,7 +3,7 @@ use Rattle.std.specs.Prelude.{ℕ, zero, suc, ◌+◌, nat_lt, ℤ, pos, ◌+ℤ
 use Rattle.item_tree.specs.declared.code.Code.{Code}
 use Rattle.item_tree.specs.declared.code.Code.TheVariants.{PJDY0003}
 use Rattle.item_tree.specs.Datum.{Datum, integer}
-use Rattle.atom_ops.specs.Operands.{and_then, one_integer}
+use Rattle.value_rules.specs.Operands.{and_then, one_integer}
 
 -- so many integers from n on
 abbrev pub counted : ℤ → ℕ → List Datum

@@ -3,7 +3,7 @@ use Rattle.std.specs.Prelude.{ℕ, List, [], ◌++◌, Option, Some, None, Resul
 use Rattle.item_tree.specs.declared.code.Code.{Code}
 use Rattle.item_tree.specs.Datum.{Datum, text}
 use Rattle.item_tree.specs.ItemText.{atom_text}
-use Rattle.atom_ops.specs.Operands.{and_then, optional_atomic}
+use Rattle.value_rules.specs.Operands.{and_then, optional_atomic}
 
 -- what is not there has the empty text
 abbrev pub optional_text : Option Datum → List ℕ

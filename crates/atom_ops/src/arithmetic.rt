@@ -4,9 +4,9 @@ ghost use Rattle.num_fixed.specs.Bounds.{InBounds, NumberInBounds};
 ghost use Rattle.atom_ops.specs.Arithmetic.{number_datum, calculation, calculated, arithmetic, negation, value_given};
 ghost use Rattle.atom_ops.specs.inside.Told.{told};
 
-use crate::operand::one_number;
 use item_tree::{Code, Item, Units, Whole};
 use num_fixed::{Kind, NumFault, Number, add, div, idiv, mul, rem, sub, to_units};
+use value_rules::one_number;
 
 /// An operation on two numbers.
 #[derive(Clone, Copy, Debug, PartialEq, Eq)]

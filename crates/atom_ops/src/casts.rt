@@ -4,14 +4,14 @@ ghost use Rattle.item_tree.specs.Item.{datum, datums};
 ghost use Rattle.num_fixed.specs.Bounds.{NumberInBounds};
 ghost use Rattle.atom_ops.specs.Arithmetic.{value_given};
 ghost use Rattle.atom_ops.specs.Casts.{as_decimal, integer_from, decimal_from, truth_in, boolean_from, null_in, string_cast, integer_cast, decimal_cast, boolean_cast, null_cast, cast_operand, cast_of, cast_by};
-ghost use Rattle.atom_ops.specs.Operands.{FailsWith};
+ghost use Rattle.value_rules.specs.Operands.{FailsWith};
 
 use crate::arithmetic::item_of;
 use crate::number_texts::{number_in, trimmed};
-use crate::operand::one_atomic;
 use item_tree::{Code, Item, OpFault, text_of};
 use num_fixed::{Number, to_units, whole_part};
 use std::alloc::Global;
+use value_rules::one_atomic;
 
 /// Casts to a string: the text of the operand.
 pub fn cast_to_string(alloc: Global, a: &[Item], optional: bool) -> Result<Option<Item>, OpFault>

@@ -2,9 +2,9 @@ ghost use Rattle.std.specs.Prelude.{◌≡◌};
 ghost use Rattle.item_tree.specs.Item.{datum, datums};
 ghost use Rattle.atom_ops.specs.Comparison.{holds, compared, value_comparison, pair_comparison, comparison_with, general_comparison};
 
-use crate::operand::{atomic, one_atomic};
 use item_tree::{Code, Item, cmp_atoms};
 use std::cmp::Ordering;
+use value_rules::{atomic, one_atomic};
 
 /// A comparison: equal, not equal, less, less or equal, greater, greater or equal.
 #[derive(Clone, Copy, Debug, PartialEq, Eq)]

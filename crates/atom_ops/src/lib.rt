@@ -6,7 +6,6 @@ mod casts;
 mod comparison;
 pub mod laws;
 mod number_texts;
-mod operand;
 mod ranges;
 mod texts;
 

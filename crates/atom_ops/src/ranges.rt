@@ -1,12 +1,12 @@
 ghost use Rattle.std.specs.Prelude.{◌≡◌, ◌^◌, pos, ◌+ℤ◌, ◌≤ℤ◌, Ok, IfOk, IfErr};
 ghost use Rattle.item_tree.specs.Datum.{IsWhole};
 ghost use Rattle.item_tree.specs.Item.{datums};
-ghost use Rattle.atom_ops.specs.Operands.{FailsWith};
+ghost use Rattle.value_rules.specs.Operands.{FailsWith};
 ghost use Rattle.atom_ops.specs.Ranges.{counted, between, range_values};
 
-use crate::operand::one_integer;
 use item_tree::{Code, Item, NoMemory, OpFault, Whole};
 use std::alloc::Global;
+use value_rules::one_integer;
 
 /// A range has no more items.
 const MOST_ITEMS: u128 = 10_000_000;

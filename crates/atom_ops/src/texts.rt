@@ -1,12 +1,12 @@
 ghost use Rattle.std.specs.Prelude.{◌≡◌, ◌++◌, Ok, Err, MatchResult, IfOk, IfErr, IfSome, None, option_map};
 ghost use Rattle.item_tree.specs.Datum.{IsAtomic};
 ghost use Rattle.item_tree.specs.Item.{datum, datums};
-ghost use Rattle.atom_ops.specs.Operands.{optional_atomic, FailsWith};
+ghost use Rattle.value_rules.specs.Operands.{FailsWith};
 ghost use Rattle.atom_ops.specs.Texts.{optional_text, joined_texts};
 
-use crate::operand::one_atomic;
 use item_tree::{Code, Item, NoMemory, OpFault, Str, text_of};
 use std::alloc::Global;
+use value_rules::optional_atomic;
 
 /// The texts of two operands, put together. Each operand is empty, which has the empty text, or one
 /// atomic.
@@ -17,18 +17,6 @@ pub fn concat_text(alloc: Global, a: &[Item], b: &[Item]) -> Result<Item, OpFaul
     let left = optional_atomic(a)?;
     let right = optional_atomic(b)?;
     Ok(Item::Text(joined(alloc, left, right)?))
-}
-
-fn optional_atomic(s: &[Item]) -> Result<Option<&Item>, Code>
-    ensures value { MatchResult result
-        (λ o. optional_atomic (datums s.now) ≡ Ok (option_map (λ x. datum x.now) o))
-        (λ e. optional_atomic (datums s.now) ≡ Err e) }
-    ensures atomic { IfOk result (λ o. IfSome o (λ x. IsAtomic (datum x.now))) }
-{
-    if s.is_empty() {
-        return Ok(None);
-    }
-    Ok(Some(one_atomic(s)?))
 }
 
 fn joined(alloc: Global, a: Option<&Item>, b: Option<&Item>) -> Result<Str, NoMemory>
