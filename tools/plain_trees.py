@@ -9,6 +9,9 @@ and the parts, which are over the type `E` of the expressions that they hold. It
   the plain value of each tree, made by the generated fold;
 - specs/NamedViews.antt, specs/BoundViews.antt: words for the plain values of trees as they were read,
   and of compiled trees;
+- specs/Subtrees.antt: the trees that a node holds, and all that stand in a tree, in text order, which
+  is that of the fields;
+- proofs/Held.antt: that the trees which stand in a tree are those of the trees that it holds;
 - proofs/Lists.antt: that the lists in plain trees are lists, there and back;
 - proofs/Folds.antt: what a fold gives at a node that is known;
 - proofs/Layers.antt: the plain value at each variant, and of an `Expr`, in one ruleset `layers`.
@@ -554,10 +557,175 @@ def write_layers():
     (CRATE / "proofs/Layers.antt").write_text(without_unused("\n".join(out) + "\n"))
 
 
+def word(name):
+    return snake(PLAIN.get(name, name))
+
+
+def tree_parts(fields):
+    """The fields that hold trees: (field, whether it is itself a tree, the word of its type)."""
+    out = []
+    for field, kind in fields:
+        held = tree(kind) or tree(inner(kind, "Box") or "")
+        if held:
+            out.append((field, held == "Expr", word(held)))
+        elif inner(kind, "Vec") and tree(inner(kind, "Vec")):
+            out.append((field, False, plural(word(tree(inner(kind, "Vec"))))))
+        elif inner(kind, "Option") and tree(inner(inner(kind, "Option"), "Box") or ""):
+            out.append((field, False, "content"))
+    return out
+
+
+def shown(name):
+    """The pattern of each variant of a type, with its fields that hold trees."""
+    for variant, fields in VARIANTS[name]:
+        names = [plain_name(f, k) for f, k in fields]
+        pattern = " ".join([f"p.{constructor(name, variant)}"] + names)
+        yield (f"({pattern})" if fields else pattern), tree_parts(fields)
+
+
+# A field that is named by a word of antt, or that would hide one.
+RENAMED = {"of": "t", "to": "t", "at": "position"}
+
+
+def plain_name(field, kind):
+    return RENAMED.get(field, field)
+
+
+def children_of(parts):
+    """The trees of these fields, in order."""
+    out = ""
+    for field, is_tree, what in reversed(parts):
+        if is_tree:
+            out = f"{field} ∷ {out or '[]'}"
+        else:
+            here = f"{what}_children {field}"
+            out = f"{here} ++ {out}" if out else here
+    return out or "[]"
+
+
+def subtrees_of(parts):
+    return " ++ ".join(f"subtrees {f}" if t else f"{w}_subtrees {f}" for f, t, w in parts) or "[]"
+
+
+def held_by(parts):
+    """The proof that the trees which stand in these fields are those of the trees that they hold."""
+    proof = ""
+    for field, is_tree, what in parts:
+        here = f"one {field}" if is_tree else f"{what}-held {field}"
+        proof = f"both {atom(proof)} {atom(here)}" if proof else here
+    return proof or "none"
+
+
+# The types of the trees, one that is used first.
+NODES = list(PARTS) + ["Clause", "Kind"]
+
+
+def write_subtrees():
+    out = [HEAD + "-- The trees that a node holds, and all trees that stand in a tree, in text order. A tree stands"]
+    out.append("-- before those in it.")
+    out.append("use Rattle.std.specs.Prelude.{List, [], ◌∷◌, ◌++◌}")
+    out.append("use Rattle.query_tree.specs.Plain as p")
+    plains = [plain(n) for n in ["Expr"] + NODES] + [list_type(n) for n in LISTS] + ["MaybeTree"]
+    out.append(f"use Rattle.query_tree.specs.Plain.{{{', '.join(plains)}}}")
+
+    def define(head, what, type_of, cases, before="\n"):
+        out.append(f"{before}{head}{what} : {{V F T : Type 0}} → {type_of} V F T → List (Tree V F T)")
+        indent = " " * (len(head) - len(head.lstrip()))
+        out.extend(f"{indent}{what} {pattern} = {value}" for pattern, value in cases)
+
+    def define_list(head, name, of, one):
+        what = f"{plural(word(name))}_{of}"
+        define(head, what, list_type(name), [(f"p.{none_of(name)}", "[]"), (f"(p.{more_of(name)} x xs)", f"{one} {what} xs")])
+
+    head = "abbrev pub "
+    define(head, "content_children", "MaybeTree", [("p.no_tree", "[]"), ("(p.one_tree t)", "t ∷ []")])
+    define_list(head, "Expr", "children", "x ∷")
+    for name in NODES:
+        define(head, f"{word(name)}_children", plain(name), [(p, children_of(parts)) for p, parts in shown(name)])
+        if name in LISTS:
+            define_list(head, name, "children", f"{word(name)}_children x ++")
+    out += ["", "-- the trees that a tree holds"]
+    define(head, "children", "Tree", [("(p.tree_node place kind)", "form_children kind")], "")
+    out += ["", "abbrev mutual", "  -- a tree, and the trees in it"]
+    head = "  pub "
+    define(head, "subtrees", "Tree", [("(p.tree_node place kind)", "p.tree_node place kind ∷ form_subtrees kind")], "")
+    for name in reversed(NODES):
+        define(head, f"{word(name)}_subtrees", plain(name), [(p, subtrees_of(parts)) for p, parts in shown(name)])
+        if name in LISTS:
+            define_list(head, name, "subtrees", f"{word(name)}_subtrees x ++")
+    define_list(head, "Expr", "subtrees", "subtrees x ++")
+    define(head, "content_subtrees", "MaybeTree", [("p.no_tree", "[]"), ("(p.one_tree t)", "subtrees t")])
+    (CRATE / "specs/Subtrees.antt").write_text(broken("\n".join(out) + "\n"))
+
+
+def write_held():
+    """That the trees in a node are those of the trees that it holds."""
+    out = [HEAD + "-- The trees in a node are those of the trees that it holds. For other crates too."]
+    out.append("use Rattle.std.proofs.Common.{◌≡◌, List, [], ◌∷◌, ◌++◌, map, refl, sym, ap, ◌∙◌}")
+    out.append("use Rattle.std.specs.List.{flat_map}")
+    out.append("use Rattle.query_tree.specs.declared.expr.Expr.{Expr}")
+    out += [f"use Rattle.query_tree.specs.declared.{MODULE[n]}.{n}.{{{n}}}" for n in LISTS if n != "Expr"]
+    out.append("use Rattle.std.proofs.lemmas.List.Concat.{flat_map-append}")
+    out.append("use Rattle.std.proofs.lemmas.List.{append-nil}")
+    out.append("use Rattle.query_tree.specs.Plain as p")
+    words = [word(n) for n in NODES] + [plural(word(n)) for n in LISTS] + ["content"]
+    plains = [plain(n) for n in ["Expr"] + NODES] + [list_type(n) for n in LISTS] + ["MaybeTree"]
+    out.append(f"use Rattle.query_tree.specs.Plain.{{{', '.join(plains)}}}")
+    names = ["children", "subtrees"] + [f"{w}_{of}" for w in words for of in ("children", "subtrees")]
+    out.append(f"use Rattle.query_tree.specs.Subtrees.{{{', '.join(names)}}}")
+    out.append("")
+    out.append("-- these trees are those in the trees that are held")
+    out.append("pub record IsHeld (V F T : Type 0) (inside held : List (Tree V F T)) : Type 0 where")
+    out.append("  pub same : inside ≡ flat_map subtrees held")
+    out += ["", "module _ {V F T : Type 0} where"]
+    out.append("  none : IsHeld V F T [] []")
+    out.append("  none = record { same = refl }")
+    out.append("")
+    out.append("  one : (t : Tree V F T) → IsHeld V F T (subtrees t) (t ∷ [])")
+    out.append("  one t = record { same = sym (append-nil (subtrees t)) }")
+    out.append("")
+    out.append("  both : {us vs xs ys : List (Tree V F T)} → IsHeld V F T us xs → IsHeld V F T vs ys → IsHeld V F T (us ++ vs) (xs ++ ys)")
+    out.append("  both {us} {vs} {xs} {ys} d e = record { same = ap (λ zs. zs ++ vs) d.same ∙ ap (λ zs. flat_map subtrees xs ++ zs) e.same ∙ sym (flat_map-append subtrees xs ys) }")
+
+    def prove(what, type_of, cases):
+        out.append("")
+        out.append(f"  pub {what}-held : (x : {type_of} V F T) → IsHeld V F T ({what}_subtrees x) ({what}_children x)")
+        out.extend(f"  {what}-held {pattern} = {value}" for pattern, value in cases)
+
+    def prove_list(name, one):
+        what = plural(word(name))
+        prove(what, list_type(name), [(f"p.{none_of(name)}", "none"), (f"(p.{more_of(name)} x xs)", f"both ({one} x) ({what}-held xs)")])
+
+    prove("content", "MaybeTree", [("p.no_tree", "none"), ("(p.one_tree t)", "one t")])
+    prove_list("Expr", "one")
+    for name in NODES:
+        prove(word(name), plain(name), [(p, held_by(parts)) for p, parts in shown(name)])
+        if name in LISTS:
+            prove_list(name, f"{word(name)}-held")
+    rules = []
+    for name in LISTS:
+        lists, of = plural(word(name)), f"p.{value_of(name)} V F T"
+        item = declared(rust_type(name))
+        held = "p.tree_of V F T x ∷ []" if name == "Expr" else f"{word(name)}_children ({of} x)"
+        more = f"p.tree_of V F T x ∷ ys" if name == "Expr" else f"{held} ++ ys"
+        rules.append(f"{lists}-listed")
+        out.append("")
+        out.append(f"  pub {lists}-listed : (xs : List ({item})) → flat_map (λ (x : {item}). {held}) xs ≡ {lists}_children (p.{list_of(name)} V F T (map ({of}) xs))")
+        out.append(f"  {lists}-listed [] = refl")
+        out.append(f"  {lists}-listed (x ∷ xs) = ap (λ ys. {more}) ({lists}-listed xs)")
+    out.append("")
+    out.append("  pub tree-held : (t : Tree V F T) → subtrees t ≡ t ∷ flat_map subtrees (children t)")
+    out.append("  tree-held (p.tree_node place kind) = ap (λ ts. p.tree_node place kind ∷ ts) (form-held kind).same")
+    out += ["", f"pub ruleset listed = ({', '.join(rules)})"]
+    (CRATE / "proofs/Held.antt").write_text(without_unused("\n".join(out) + "\n"))
+
+
 def main():
     write_plain()
     write_named_views()
     write_bound_views()
+    write_subtrees()
+    write_held()
     write_lists()
     write_folds()
     write_layers()

@@ -96,7 +96,7 @@ module _ (width : ℕ) where
   with_any-fits s (Some v) f a = with_slot-fits s v.name f a
 
   pub after_key-fits : (s : Scope) (k : PlainGroupVar Slot Target SeqType) → InFrame s.locals → Fits width (group_var_binders k) → InFrame (after_key s k).locals
-  after_key-fits s (p.stream_group_var variable) f a = f
+  after_key-fits s (p.stream_group_var variable) f a = with_slot-fits s variable.name f a
   after_key-fits s (p.computed_group_var variable value) f a = with_slot-fits s variable.name f (fit_parts (variable.name ∷ []) (binders value) a).0
 
   after_keys-fits : (s : Scope) (ks : PlainGroupVars Slot Target SeqType) → InFrame s.locals → Fits width (group_vars_binders ks) → InFrame (after_keys s ks).locals

@@ -7,7 +7,8 @@ use Rattle.query_tree.specs.declared.bound.Slot.{Slot}
 use Rattle.query_tree.specs.declared.bound.Target.{Target}
 use Rattle.query_tree.specs.Plain as p
 use Rattle.query_tree.specs.Plain.{Tree, Trees, Form, MaybeTree, PlainOperand, PlainOperands, PlainTerm, PlainTerms, PlainFactor, PlainFactors, PlainBind, PlainBinds, PlainCase, PlainCases, PlainTypeCase, PlainTypeCases, PlainCatch, PlainCatches, PlainPair, PlainPairs, PlainStep, PlainSteps, PlainLookup, PlainClause, PlainClauses, PlainGroupVar, PlainGroupVars, PlainOrderKey, PlainOrderKeys}
-use Rattle.query_tree.specs.Scopes.{Scope, may_read, may_bind, may_bind_any, with_slot, with_any, with_item, may_call, is_cast_type}
+use Rattle.query_tree.specs.Scopes.{Scope, may_read, may_bind, may_bind_any, with_slot, enter_slot, with_any, with_item, may_call, is_cast_type}
+use Rattle.query_tree.specs.Scoped.{unnumbered, key_scope, keys_scope, clause_scope, clauses_scope, bind_scope, binds_scope}
 
 -- the plain value of an expression of a compiled tree
 abbrev pub BoundTree : Type 0
@@ -17,36 +18,25 @@ abbrev pub how_many : Trees Slot Target SeqType → ℕ
 how_many p.no_trees = 0
 how_many (p.more_trees t ts) = how_many ts + 1
 
--- the scope after a key of a grouping, which the keys to its right see
+-- the scope after a key of a grouping, which the keys to its right see, after a clause and after a
+-- binding of a quantified expression
 abbrev pub after_key : Scope → PlainGroupVar Slot Target SeqType → Scope
-after_key s (p.stream_group_var variable) = s
-after_key s (p.computed_group_var variable value) = with_slot s variable.name
+after_key s k = key_scope enter_slot s tt k
 
 abbrev pub after_keys : Scope → PlainGroupVars Slot Target SeqType → Scope
-after_keys s p.no_group_vars = s
-after_keys s (p.more_group_vars k ks) = after_keys (after_key s k) ks
+after_keys s ks = keys_scope enter_slot unnumbered s tt ks
 
--- the scope after a clause
 abbrev pub after_clause : Scope → PlainClause Slot Target SeqType → Scope
-after_clause s (p.for_clause variable t allowing_empty position source) =
-    with_any (with_slot s variable.name) position
-after_clause s (p.let_clause variable t value) = with_slot s variable.name
-after_clause s (p.keep_clause place test) = s
-after_clause s (p.group_clause place keys) = after_keys s keys
-after_clause s (p.order_clause place stable keys) = s
-after_clause s (p.count_clause place variable) = with_slot s variable.name
+after_clause s c = clause_scope enter_slot unnumbered s tt c
 
 abbrev pub after_clauses : Scope → PlainClauses Slot Target SeqType → Scope
-after_clauses s p.no_clauses = s
-after_clauses s (p.more_clauses c cs) = after_clauses (after_clause s c) cs
+after_clauses s cs = clauses_scope enter_slot unnumbered s tt cs
 
--- the scope after a binding of a quantified expression
 abbrev pub after_bind : Scope → PlainBind Slot Target SeqType → Scope
-after_bind s (p.bind_node variable t source) = with_slot s variable.name
+after_bind s b = bind_scope enter_slot s tt b
 
 abbrev pub after_binds : Scope → PlainBinds Slot Target SeqType → Scope
-after_binds s p.no_binds = s
-after_binds s (p.more_binds b bs) = after_binds (after_bind s b) bs
+after_binds s bs = binds_scope enter_slot unnumbered s tt bs
 
 abbrev mutual
   pub is_bound : Scope → BoundTree → Bool

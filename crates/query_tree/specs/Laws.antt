@@ -1,73 +1,26 @@
--- Laws of the nesting and of the spine of trees.
-use Rattle.std.specs.Prelude.{◌≡◌, ℕ, ◌+◌, ◌*◌, ◌≤◌, max, true, List, [], ◌∷◌, ◌++◌, Option}
+-- Laws of the nesting and of the spine of trees, of their calls, and of the slots of clauses.
+use Rattle.std.specs.Prelude.{◌≡◌, ℕ, ◌+◌, ◌*◌, ◌≤◌, max, true, List, [], ◌∷◌, ◌++◌, Option, fold}
+use Rattle.std.specs.Option.{option_to_list}
+use Rattle.std.specs.List.{flat_map}
+use Rattle.seq_types.specs.declared.types.SeqType.{SeqType}
+use Rattle.query_tree.specs.declared.bound.Slot.{Slot}
+use Rattle.query_tree.specs.declared.bound.Target.{Target}
 use Rattle.query_tree.specs.declared.names.Placed.{Placed}
 use Rattle.query_tree.specs.declared.names.TypeName.{TypeName}
 use Rattle.query_tree.specs.declared.operator.Quantifier.{Quantifier}
 use Rattle.query_tree.specs.Plain as p
-use Rattle.query_tree.specs.Plain.{PlainClause, PlainClauses, PlainGroupVar, PlainGroupVars, PlainOrderKey, PlainOrderKeys, PlainBind, PlainCase, PlainTypeCase, PlainCatch, PlainPair, PlainStep, PlainTerm, MaybeTree, Trees}
+use Rattle.query_tree.specs.Plain.{PlainClause, PlainClauses, PlainBind, PlainCase, PlainTypeCase, PlainCatch, PlainPair, PlainStep, PlainTerm, MaybeTree}
 use Rattle.query_tree.specs.NamedViews.{NamedTree}
-use Rattle.query_tree.specs.Bound.{BoundTree}
+use Rattle.query_tree.specs.Bound.{BoundTree, after_clauses}
+use Rattle.query_tree.specs.Calls.{own_call, calls}
+use Rattle.query_tree.specs.Scoped.{clause_slots}
+use Rattle.query_tree.specs.Scopes.{Scope, with_slot}
+use Rattle.query_tree.specs.Subtrees.{children, content_children, bind_children, case_children, type_case_children, catch_children, pair_children, term_children, clause_children}
 use Rattle.query_tree.specs.Nesting.{nesting, greatest, step_nesting}
 use Rattle.query_tree.specs.Spines.{spine, commas_apart}
 
 abbrev pub Name : Type 0
 Name = List ℕ
-
--- ---- the trees that parts hold
-
-abbrev pub joined : {A B : Type 0} → (A → List B) → List A → List B
-joined f [] = []
-joined f (x ∷ xs) = f x ++ joined f xs
-
-abbrev pub bind_trees : PlainBind Name Name TypeName → List NamedTree
-bind_trees (p.bind_node variable t source) = source ∷ []
-
-abbrev pub tests_of : Trees Name Name TypeName → List NamedTree
-tests_of p.no_trees = []
-tests_of (p.more_trees t ts) = t ∷ tests_of ts
-
-abbrev pub case_trees : PlainCase Name Name TypeName → List NamedTree
-case_trees (p.case_node tests result) = tests_of tests ++ result ∷ []
-
-abbrev pub type_case_trees : PlainTypeCase Name Name TypeName → List NamedTree
-type_case_trees (p.type_case_node variable types result) = result ∷ []
-
-abbrev pub catch_trees : PlainCatch Name Name TypeName → List NamedTree
-catch_trees (p.catch_node error codes body) = body ∷ []
-
-abbrev pub pair_trees : PlainPair Name Name TypeName → List NamedTree
-pair_trees (p.named_pair name place value) = value ∷ []
-pair_trees (p.computed_pair key place value) = key ∷ value ∷ []
-
-abbrev pub content_trees : MaybeTree Name Name TypeName → List NamedTree
-content_trees p.no_tree = []
-content_trees (p.one_tree t) = t ∷ []
-
-abbrev pub group_var_trees : PlainGroupVar Name Name TypeName → List NamedTree
-group_var_trees (p.stream_group_var variable) = []
-group_var_trees (p.computed_group_var variable value) = value ∷ []
-
-abbrev pub group_trees : PlainGroupVars Name Name TypeName → List NamedTree
-group_trees p.no_group_vars = []
-group_trees (p.more_group_vars v vs) = group_var_trees v ++ group_trees vs
-
-abbrev pub order_key_trees : PlainOrderKey Name Name TypeName → List NamedTree
-order_key_trees (p.order_key_node value descending greatest') = value ∷ []
-
-abbrev pub order_trees : PlainOrderKeys Name Name TypeName → List NamedTree
-order_trees p.no_order_keys = []
-order_trees (p.more_order_keys k ks) = order_key_trees k ++ order_trees ks
-
-abbrev pub clause_trees : PlainClause Name Name TypeName → List NamedTree
-clause_trees (p.for_clause variable t allowing_empty position source) = source ∷ []
-clause_trees (p.let_clause variable t value) = value ∷ []
-clause_trees (p.keep_clause place test) = test ∷ []
-clause_trees (p.group_clause place keys) = group_trees keys
-clause_trees (p.order_clause place stable keys) = order_trees keys
-clause_trees (p.count_clause place variable) = []
-
-abbrev pub term_trees : PlainTerm Name Name TypeName → List NamedTree
-term_trees (p.term_node op place value) = value ∷ []
 
 -- ---- what nesting counts
 
@@ -90,36 +43,36 @@ step_depth s = step_nesting s
 pub record NestingCountsForms : Type 0 where
   pub of_flwor : (at place : ℕ) (cs : List (PlainClause Name Name TypeName)) (result : NamedTree)
       → IsFormOf (nesting (form_at at (p.flwor_form (clauses_of cs) place result)))
-      (joined clause_trees cs ++ result ∷ [])
+      (flat_map clause_children cs ++ result ∷ [])
   pub of_quantifier : (at : ℕ) (q : Quantifier) (bs : List (PlainBind Name Name TypeName))
       (test : NamedTree)
       → IsFormOf (nesting (form_at at (p.quant_form q (p.binds_of Name Name TypeName bs) test)))
-      (joined bind_trees bs ++ test ∷ [])
+      (flat_map bind_children bs ++ test ∷ [])
   pub of_switch : (at : ℕ) (operand : NamedTree) (cs : List (PlainCase Name Name TypeName))
       (default : NamedTree)
       → IsFormOf (nesting (form_at at
       (p.switch_form operand (p.cases_of Name Name TypeName cs) default)))
-      (operand ∷ joined case_trees cs ++ default ∷ [])
+      (operand ∷ flat_map case_children cs ++ default ∷ [])
   pub of_typeswitch : (at : ℕ) (operand : NamedTree) (cs : List (PlainTypeCase Name Name TypeName))
       (variable : Option (Placed Name)) (default : NamedTree)
       → IsFormOf (nesting (form_at at
       (p.typeswitch_form operand (p.type_cases_of Name Name TypeName cs) variable default)))
-      (operand ∷ joined type_case_trees cs ++ default ∷ [])
+      (operand ∷ flat_map type_case_children cs ++ default ∷ [])
   pub of_if : (at : ℕ) (condition when_true when_false : NamedTree)
       → IsFormOf (nesting (form_at at (p.if_form condition when_true when_false)))
       (condition ∷ when_true ∷ when_false ∷ [])
   pub of_try : (at : ℕ) (body : NamedTree) (cs : List (PlainCatch Name Name TypeName))
       → IsFormOf (nesting (form_at at (p.try_form body (p.catches_of Name Name TypeName cs))))
-      (body ∷ joined catch_trees cs)
+      (body ∷ flat_map catch_children cs)
   pub of_parentheses : (at : ℕ) (content : MaybeTree Name Name TypeName)
-      → IsFormOf (nesting (form_at at (p.paren_form content))) (content_trees content)
+      → IsFormOf (nesting (form_at at (p.paren_form content))) (content_children content)
   pub of_object : (at : ℕ) (ps : List (PlainPair Name Name TypeName))
       → IsFormOf (nesting (form_at at (p.object_form (p.pairs_of Name Name TypeName ps))))
-      (joined pair_trees ps)
+      (flat_map pair_children ps)
   pub of_merge : (at : ℕ) (content : MaybeTree Name Name TypeName)
-      → IsFormOf (nesting (form_at at (p.merge_form content))) (content_trees content)
+      → IsFormOf (nesting (form_at at (p.merge_form content))) (content_children content)
   pub of_array : (at : ℕ) (content : MaybeTree Name Name TypeName)
-      → IsFormOf (nesting (form_at at (p.array_form content))) (content_trees content)
+      → IsFormOf (nesting (form_at at (p.array_form content))) (content_children content)
   pub of_call : (at : ℕ) (function : Name) (arguments : List NamedTree)
       → IsFormOf (nesting (form_at at
       (p.call_form function (p.trees_of Name Name TypeName arguments)))) arguments
@@ -135,7 +88,7 @@ pub record NestingCountsForms : Type 0 where
       ≡ max (nesting before) (greatest step_depth ss)
   pub of_operator : (at : ℕ) (left : NamedTree) (ts : List (PlainTerm Name Name TypeName))
       → nesting (form_at at (p.sum_form left (p.terms_of Name Name TypeName ts)))
-      ≡ greatest nesting (left ∷ joined term_trees ts)
+      ≡ greatest nesting (left ∷ flat_map term_children ts)
 
 -- ---- what bounds the spine
 
@@ -144,3 +97,19 @@ pub record NestingCountsForms : Type 0 where
 pub record NestingBoundsSpines : Type 0 where
   pub of_read : (t : NamedTree) → commas_apart t ≡ true → spine t ≤ 2 * nesting t + 1
   pub of_compiled : (t : BoundTree) → commas_apart t ≡ true → spine t ≤ 2 * nesting t + 1
+
+-- ---- the calls of a tree
+
+-- A call stands before the calls of the trees that it holds, and these stand in order.
+pub record CallsStandInOrder : Type 0 where
+  pub of_read : (t : NamedTree)
+      → calls t ≡ option_to_list (own_call t) ++ flat_map calls (children t)
+  pub of_compiled : (t : BoundTree)
+      → calls t ≡ option_to_list (own_call t) ++ flat_map calls (children t)
+
+-- ---- the slots of clauses
+
+-- The scope behind clauses is that before them, with their slots bound in order.
+pub record SlotsAreBound : Type 0 where
+  pub behind_clauses : (s : Scope) (cs : PlainClauses Slot Target SeqType)
+      → after_clauses s cs ≡ fold with_slot s (clause_slots cs)

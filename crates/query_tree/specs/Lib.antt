@@ -2,11 +2,16 @@ pub mod Binders
 pub mod Bindings
 pub mod Bound
 pub mod BoundViews
+pub mod Calls
 pub mod Compiled
+pub mod Inputs
 pub mod Laws
 pub mod Modules
 pub mod NamedViews
 pub mod Nesting
 pub mod Plain
+pub mod Scoped
 pub mod Scopes
 pub mod Spines
+pub mod Subtrees
+pub mod inside

@@ -13,6 +13,7 @@ use Rattle.query_tree.specs.declared.bound.Slot.TheVariants.{Local, Global}
 use Rattle.query_tree.specs.declared.bound.Target.{Target}
 use Rattle.query_tree.specs.declared.bound.Target.TheVariants.{Built, Own, Lines}
 use Rattle.query_tree.specs.declared.names.Placed.{Placed}
+use Rattle.query_tree.specs.Scoped.{Unnumbered, any_scope}
 
 -- the local bindings that may be read, by their numbers: these, or each below a number, as in a
 -- frame of so many slots
@@ -60,9 +61,11 @@ and_local (these ns) (Global n) = these ns
 abbrev pub with_slot : Scope → Slot → Scope
 with_slot s v = record s { locals = and_local s.locals v }
 
+abbrev pub enter_slot : Scope → Unnumbered → Slot → Scope
+enter_slot s n v = with_slot s v
+
 abbrev pub with_any : Scope → Option (Placed Slot) → Scope
-with_any s None = s
-with_any s (Some v) = with_slot s v.name
+with_any s v = any_scope enter_slot s tt v
 
 -- the scope of a predicate, and of what stands to the right of `!`
 abbrev pub with_item : Scope → Scope

@@ -1,5 +1,8 @@
-use crate::{BoundModule, Clause, Compiled, Expr, Kind, NamedExpr, Placed, Slot, SumOp, Term};
-use item_tree::Whole;
+use crate::{
+    BoundModule, Clause, Compiled, Expr, InputNames, Kind, NamedExpr, Placed, Slot, SumOp, Target,
+    Term, clause_slots, discard, input_names,
+};
+use item_tree::{Str, Whole};
 use std::alloc::Global;
 use std::test::Fail;
 
@@ -140,5 +143,83 @@ fn compiled_made(alloc: Global) -> Result<(usize, Option<(usize, u32, u32)>), Fa
 fn lends_a_compiled_tree(rt: HostRuntime) -> Result<(), Fail> {
     let made = compiled_made(rt.alloc())?;
     assert_eq!(rt; made, (1, Some((1, 15, 22))));
+    Ok(())
+}
+
+// The slots that the clauses of the body bind.
+fn body_slots(alloc: Global, query: &Compiled) -> Result<Vec<Slot>, Fail> {
+    match &query.module().body.kind {
+        Kind::Flwor { clauses, .. } => Ok(clause_slots(alloc, clauses)?),
+        _ => Ok(Vec::new(alloc)),
+    }
+}
+
+fn slots_made(alloc: Global) -> Result<Vec<Slot>, Fail> {
+    let query = compiled(alloc)?;
+    let slots = body_slots(alloc, &query);
+    discard(query);
+    slots
+}
+
+#[test]
+fn tells_the_slots_of_clauses(rt: HostRuntime) -> Result<(), Fail> {
+    let slots = slots_made(rt.alloc())?;
+    assert_eq!(rt; slots.as_slice(), [Slot::Local(0)].as_slice());
+    Ok(())
+}
+
+// `json-lines("b", "a", "b")`, compiled.
+fn reading(alloc: Global) -> Result<BoundModule, Fail> {
+    let b = Str::of(alloc, "b")?;
+    let a = Str::of(alloc, "a")?;
+    let names = vec![in alloc; b.copy()?, a, b]?;
+    Ok(BoundModule {
+        variables: Vec::new(alloc),
+        functions: Vec::new(alloc),
+        body: Expr {
+            place: 0,
+            kind: Kind::Call {
+                function: Target::Lines(InputNames::new(names)),
+                arguments: Vec::new(alloc),
+            },
+        },
+    })
+}
+
+// The names of its inputs, with a blank behind each.
+fn inputs_told(alloc: Global) -> Result<String, Fail> {
+    let query = reading(alloc)?;
+    let names = input_names(alloc, &query);
+    discard(query);
+    let mut text = String::new(alloc);
+    for name in &names? {
+        text.push_str(name.as_str())?;
+        text.push(' ')?;
+    }
+    Ok(text)
+}
+
+#[test]
+fn tells_inputs_once(rt: HostRuntime) -> Result<(), Fail> {
+    let text = inputs_told(rt.alloc())?;
+    assert_eq!(rt; text.as_str(), "b a ");
+    Ok(())
+}
+
+fn is_shared<T: Sync>(_value: &T) -> bool {
+    true
+}
+
+fn shares(alloc: Global) -> Result<bool, Fail> {
+    let query = compiled(alloc)?;
+    let shared = is_shared(&query);
+    discard(query);
+    Ok(shared)
+}
+
+#[test]
+fn shares_a_compiled_tree(rt: HostRuntime) -> Result<(), Fail> {
+    let shared = shares(rt.alloc())?;
+    assert!(rt; shared);
     Ok(())
 }

@@ -19,6 +19,7 @@ use Rattle.query_tree.specs.declared.names.TypeName.{TypeName}
 use Rattle.query_tree.specs.Modules.{PlainVariable, PlainFunction}
 use Rattle.query_tree.specs.Plain as p
 use Rattle.query_tree.specs.Plain.{Tree, Trees, Form, MaybeTree, PlainOperand, PlainOperands, PlainTerm, PlainTerms, PlainFactor, PlainFactors, PlainBind, PlainBinds, PlainCase, PlainCases, PlainTypeCase, PlainTypeCases, PlainCatch, PlainCatches, PlainPair, PlainPairs, PlainStep, PlainSteps, PlainLookup, PlainClause, PlainClauses, PlainGroupVar, PlainGroupVars, PlainOrderKey, PlainOrderKeys}
+use Rattle.query_tree.specs.Scoped.{any_scope, key_scope, keys_scope, clause_scope, clauses_scope, bind_scope, binds_scope}
 use Rattle.query_tree.specs.Bound.{BoundTree}
 use Rattle.query_tree.specs.Compiled.{BoundTrees, is_compiled}
 use Rattle.query_tree.specs.NamedViews.{NamedTree, NamedQuery}
@@ -38,9 +39,11 @@ pub record Names : Type 0 where
 abbrev pub with_slot : Names → List ℕ → Slot → Names
 with_slot s name slot = record s { variables = (name, slot) ∷ s.variables }
 
+abbrev pub enter_local : Names → ℕ → List ℕ → Names
+enter_local s n name = with_slot s name (Local n)
+
 abbrev pub with_any : Names → Option (Placed (List ℕ)) → ℕ → Names
-with_any s None n = s
-with_any s (Some x) n = with_slot s x.name (Local n)
+with_any s x n = any_scope enter_local s n x
 
 abbrev pub slot_in : List (List ℕ × Slot) → List ℕ → Slot
 slot_in [] name = Local 0
@@ -85,35 +88,22 @@ past n bound = n + length bound
 -- the names behind a key of a grouping, a clause, and a binding of a quantified expression, whose
 -- own bindings begin with this number
 abbrev pub after_key : Names → ℕ → PlainGroupVar (List ℕ) (List ℕ) TypeName → Names
-after_key s n (p.stream_group_var variable) = with_slot s variable.name (Local n)
-after_key s n (p.computed_group_var variable value) = with_slot s variable.name (Local n)
+after_key s n k = key_scope enter_local s n k
 
 abbrev pub after_keys : Names → ℕ → PlainGroupVars (List ℕ) (List ℕ) TypeName → Names
-after_keys s n p.no_group_vars = s
-after_keys s n (p.more_group_vars k ks) =
-    after_keys (after_key s n k) (past n (Binders.group_var_binders k)) ks
+after_keys s n ks = keys_scope enter_local past s n ks
 
 abbrev pub after_clause : Names → ℕ → PlainClause (List ℕ) (List ℕ) TypeName → Names
-after_clause s n (p.for_clause variable t allowing_empty position source) =
-    with_any (with_slot s variable.name (Local n)) position (n + 1)
-after_clause s n (p.let_clause variable t value) = with_slot s variable.name (Local n)
-after_clause s n (p.keep_clause place test) = s
-after_clause s n (p.group_clause place keys) = after_keys s n keys
-after_clause s n (p.order_clause place stable keys) = s
-after_clause s n (p.count_clause place variable) = with_slot s variable.name (Local n)
+after_clause s n c = clause_scope enter_local past s n c
 
 abbrev pub after_clauses : Names → ℕ → PlainClauses (List ℕ) (List ℕ) TypeName → Names
-after_clauses s n p.no_clauses = s
-after_clauses s n (p.more_clauses c cs) =
-    after_clauses (after_clause s n c) (past n (Binders.clause_binders c)) cs
+after_clauses s n cs = clauses_scope enter_local past s n cs
 
 abbrev pub after_bind : Names → ℕ → PlainBind (List ℕ) (List ℕ) TypeName → Names
-after_bind s n (p.bind_node variable t source) = with_slot s variable.name (Local n)
+after_bind s n b = bind_scope enter_local s n b
 
 abbrev pub after_binds : Names → ℕ → PlainBinds (List ℕ) (List ℕ) TypeName → Names
-after_binds s n p.no_binds = s
-after_binds s n (p.more_binds b bs) =
-    after_binds (after_bind s n b) (past n (Binders.bind_binders b)) bs
+after_binds s n bs = binds_scope enter_local past s n bs
 
 -- the compiled tree of an expression whose bindings begin with this number, and of each part of one
 abbrev mutual

@@ -1,10 +1,11 @@
 -- Which variables and declared functions are seen where an expression of a query stands.
-use Rattle.std.specs.Prelude.{ℕ, ◌+◌, Bool, true, ◌==◌, ◌&&◌, Option, Some, None, List, ◌∷◌}
+use Rattle.std.specs.Prelude.{ℕ, ◌+◌, Bool, true, ◌==◌, ◌&&◌, Option, List, ◌∷◌}
 use Rattle.std.specs.List.{list_any}
 use Rattle.std.specs.Str.{bytes_eq}
 use Rattle.query_tree.specs.declared.names.Placed.{Placed}
 use Rattle.query_tree.specs.declared.names.TypeName.{TypeName}
 use Rattle.query_tree.specs.Plain as p
+use Rattle.query_tree.specs.Scoped.{Unnumbered, unnumbered, any_scope, key_scope, keys_scope, clause_scope, clauses_scope, bind_scope, binds_scope}
 use Rattle.query_tree.specs.Plain.{Trees, PlainClause, PlainClauses, PlainGroupVar, PlainGroupVars, PlainBind, PlainBinds}
 
 -- the plain value of a list of expressions as they were read
@@ -44,38 +45,30 @@ with_name v name = seeing v (name ∷ v.variables)
 abbrev pub with_item : View → View
 with_item v = record v { item = true }
 
+abbrev pub enter_name : List (List ℕ) → Unnumbered → List ℕ → List (List ℕ)
+enter_name names n name = name ∷ names
+
 abbrev pub and_any : List (List ℕ) → Option (Placed (List ℕ)) → List (List ℕ)
-and_any names None = names
-and_any names (Some x) = x.name ∷ names
+and_any names x = any_scope enter_name names tt x
 
 -- the names that are bound behind a binding of a quantified expression, where these are bound
 -- before it
 abbrev pub after_bind : List (List ℕ) → PlainBind (List ℕ) (List ℕ) TypeName → List (List ℕ)
-after_bind names (p.bind_node variable t source) = variable.name ∷ names
+after_bind names b = bind_scope enter_name names tt b
 
 abbrev pub after_binds : List (List ℕ) → PlainBinds (List ℕ) (List ℕ) TypeName → List (List ℕ)
-after_binds names p.no_binds = names
-after_binds names (p.more_binds b bs) = after_binds (after_bind names b) bs
+after_binds names bs = binds_scope enter_name unnumbered names tt bs
 
 -- the same behind a key of a grouping
 abbrev pub after_key : List (List ℕ) → PlainGroupVar (List ℕ) (List ℕ) TypeName → List (List ℕ)
-after_key names (p.stream_group_var variable) = variable.name ∷ names
-after_key names (p.computed_group_var variable value) = variable.name ∷ names
+after_key names k = key_scope enter_name names tt k
 
 abbrev pub after_keys : List (List ℕ) → PlainGroupVars (List ℕ) (List ℕ) TypeName → List (List ℕ)
-after_keys names p.no_group_vars = names
-after_keys names (p.more_group_vars k ks) = after_keys (after_key names k) ks
+after_keys names ks = keys_scope enter_name unnumbered names tt ks
 
 -- the same behind a clause of a FLWOR
 abbrev pub after_clause : List (List ℕ) → PlainClause (List ℕ) (List ℕ) TypeName → List (List ℕ)
-after_clause names (p.for_clause variable t allowing_empty position source) =
-    and_any (variable.name ∷ names) position
-after_clause names (p.let_clause variable t value) = variable.name ∷ names
-after_clause names (p.keep_clause place test) = names
-after_clause names (p.group_clause place keys) = after_keys names keys
-after_clause names (p.order_clause place stable keys) = names
-after_clause names (p.count_clause place variable) = variable.name ∷ names
+after_clause names c = clause_scope enter_name unnumbered names tt c
 
 abbrev pub after_clauses : List (List ℕ) → PlainClauses (List ℕ) (List ℕ) TypeName → List (List ℕ)
-after_clauses names p.no_clauses = names
-after_clauses names (p.more_clauses c cs) = after_clauses (after_clause names c) cs
+after_clauses names cs = clauses_scope enter_name unnumbered names tt cs

@@ -23,7 +23,7 @@ use std::alloc::Global;
 
 #[cycle(walk)]
 #[tactic(auto, using(query_tree::proofs::Layers::layers, crate::proofs::Passing::passings))]
-pub fn choice<'q>(
+pub fn if_else<'q>(
     alloc: Global,
     walk: &mut Walk<'q>,
     item: bool,
@@ -267,7 +267,7 @@ fn arm<'q>(
 
 #[cycle(walk)]
 #[tactic(auto, using(query_tree::proofs::Layers::layers, crate::proofs::Passing::passings))]
-pub fn tried<'q>(
+pub fn try_catch<'q>(
     alloc: Global,
     walk: &mut Walk<'q>,
     item: bool,

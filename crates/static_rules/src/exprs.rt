@@ -6,12 +6,12 @@ ghost use Rattle.query_tree.specs.NamedViews.{named_tree, named_form};
 ghost use Rattle.query_tree.specs.BoundViews.{bound_tree, bound_form};
 ghost use Rattle.static_rules.specs.Sources.{behind_tree, behind_form};
 
-use crate::choices::{choice, switch, tried, typeswitch};
+use crate::choices::{if_else, switch, try_catch, typeswitch};
 use crate::flwor::flwor;
 use crate::leaves::{BoundKind, NamedKind, constant, context, dec, int, text, var};
 use crate::operators::{
-    all_of, any_of, cast, castable, comma, compare, concat, instance, mapping, negation, product,
-    range, sign, sum, treat,
+    and, cast, castable, comma, compare, concat, instance, map, not, or, product, range, sign, sum,
+    treat,
 };
 use crate::primaries::{array, call, merge, object, paren};
 use crate::quantifiers::quantified;
@@ -57,10 +57,10 @@ fn kind<'q>(
 {
     match kind {
         Kind::Comma { first, rest } => comma(alloc, walk, item, rest, first),
-        Kind::Or { first, rest } => any_of(alloc, walk, item, rest, first),
-        Kind::And { first, rest } => all_of(alloc, walk, item, rest, first),
+        Kind::Or { first, rest } => or(alloc, walk, item, rest, first),
+        Kind::And { first, rest } => and(alloc, walk, item, rest, first),
         Kind::Concat { first, rest } => concat(alloc, walk, item, rest, first),
-        Kind::Map { first, rest } => mapping(alloc, walk, item, rest, first),
+        Kind::Map { first, rest } => map(alloc, walk, item, rest, first),
         Kind::Sum { first, rest } => sum(alloc, walk, item, rest, first),
         Kind::Product { first, rest } => product(alloc, walk, item, rest, first),
         Kind::Postfix { primary, steps } => postfix(alloc, walk, item, steps, primary),
@@ -75,7 +75,7 @@ fn kind<'q>(
             place: at,
             right,
         } => range(alloc, walk, item, left, *at, right),
-        Kind::Not { operand } => negation(alloc, walk, item, operand),
+        Kind::Not { operand } => not(alloc, walk, item, operand),
         Kind::Sign { signs, operand } => sign(alloc, walk, item, signs, operand),
         Kind::Instance {
             operand,
@@ -101,7 +101,7 @@ fn kind<'q>(
             condition,
             when_true,
             when_false,
-        } => choice(alloc, walk, item, condition, when_true, when_false),
+        } => if_else(alloc, walk, item, condition, when_true, when_false),
         Kind::Switch {
             operand,
             cases,
@@ -113,7 +113,7 @@ fn kind<'q>(
             variable,
             default,
         } => typeswitch(alloc, walk, item, cases, operand, variable, default),
-        Kind::Try { body, catches } => tried(alloc, walk, item, catches, body),
+        Kind::Try { body, catches } => try_catch(alloc, walk, item, catches, body),
         Kind::Quant {
             quantifier,
             binds,

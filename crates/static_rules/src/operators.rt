@@ -44,7 +44,7 @@ pub fn comma<'q>(
 
 #[cycle(walk)]
 #[tactic(auto, using(query_tree::proofs::Layers::layers, crate::proofs::Passing::passings))]
-pub fn any_of<'q>(
+pub fn or<'q>(
     alloc: Global,
     walk: &mut Walk<'q>,
     item: bool,
@@ -68,7 +68,7 @@ pub fn any_of<'q>(
 
 #[cycle(walk)]
 #[tactic(auto, using(query_tree::proofs::Layers::layers, crate::proofs::Passing::passings))]
-pub fn all_of<'q>(
+pub fn and<'q>(
     alloc: Global,
     walk: &mut Walk<'q>,
     item: bool,
@@ -117,7 +117,7 @@ pub fn concat<'q>(
 
 #[cycle(walk)]
 #[tactic(auto, using(query_tree::proofs::Layers::layers, crate::proofs::Passing::passings))]
-pub fn mapping<'q>(
+pub fn map<'q>(
     alloc: Global,
     walk: &mut Walk<'q>,
     item: bool,
@@ -248,7 +248,7 @@ pub fn range<'q>(
 
 #[cycle(walk)]
 #[tactic(auto, using(query_tree::proofs::Layers::layers, crate::proofs::Passing::passings))]
-pub fn negation<'q>(
+pub fn not<'q>(
     alloc: Global,
     walk: &mut Walk<'q>,
     item: bool,

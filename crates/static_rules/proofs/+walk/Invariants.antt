@@ -16,17 +16,17 @@ decreases-exprs::kind l = 8 * goal.size-exprs::kind l + 7
 abbrev pub decreases-operators::comma : goal.decreases-operators::comma
 decreases-operators::comma l = 8 * (max (goal.size-operators::comma l) (size-Expr (List ℕ) (List ℕ) TypeName l.first.now)) + 5
 
-abbrev pub decreases-operators::any_of : goal.decreases-operators::any_of
-decreases-operators::any_of l = 8 * (max (goal.size-operators::any_of l) (size-Expr (List ℕ) (List ℕ) TypeName l.first.now)) + 5
+abbrev pub decreases-operators::or : goal.decreases-operators::or
+decreases-operators::or l = 8 * (max (goal.size-operators::or l) (size-Expr (List ℕ) (List ℕ) TypeName l.first.now)) + 5
 
-abbrev pub decreases-operators::all_of : goal.decreases-operators::all_of
-decreases-operators::all_of l = 8 * (max (goal.size-operators::all_of l) (size-Expr (List ℕ) (List ℕ) TypeName l.first.now)) + 5
+abbrev pub decreases-operators::and : goal.decreases-operators::and
+decreases-operators::and l = 8 * (max (goal.size-operators::and l) (size-Expr (List ℕ) (List ℕ) TypeName l.first.now)) + 5
 
 abbrev pub decreases-operators::concat : goal.decreases-operators::concat
 decreases-operators::concat l = 8 * (max (goal.size-operators::concat l) (size-Expr (List ℕ) (List ℕ) TypeName l.first.now)) + 5
 
-abbrev pub decreases-operators::mapping : goal.decreases-operators::mapping
-decreases-operators::mapping l = 8 * (max (goal.size-operators::mapping l) (size-Expr (List ℕ) (List ℕ) TypeName l.first.now)) + 5
+abbrev pub decreases-operators::map : goal.decreases-operators::map
+decreases-operators::map l = 8 * (max (goal.size-operators::map l) (size-Expr (List ℕ) (List ℕ) TypeName l.first.now)) + 5
 
 abbrev pub decreases-operators::sum : goal.decreases-operators::sum
 decreases-operators::sum l = 8 * (max (goal.size-operators::sum l) (size-Expr (List ℕ) (List ℕ) TypeName l.first.now)) + 5
@@ -40,8 +40,8 @@ decreases-operators::compare l = 8 * (max (size-Expr (List ℕ) (List ℕ) TypeN
 abbrev pub decreases-operators::range : goal.decreases-operators::range
 decreases-operators::range l = 8 * (max (size-Expr (List ℕ) (List ℕ) TypeName l.left.now) (size-Expr (List ℕ) (List ℕ) TypeName l.right.now)) + 5
 
-abbrev pub decreases-operators::negation : goal.decreases-operators::negation
-decreases-operators::negation l = 8 * (size-Expr (List ℕ) (List ℕ) TypeName l.operand.now) + 5
+abbrev pub decreases-operators::not : goal.decreases-operators::not
+decreases-operators::not l = 8 * (size-Expr (List ℕ) (List ℕ) TypeName l.operand.now) + 5
 
 abbrev pub decreases-operators::sign : goal.decreases-operators::sign
 decreases-operators::sign l = 8 * (size-Expr (List ℕ) (List ℕ) TypeName l.operand.now) + 5
@@ -136,8 +136,8 @@ decreases-steps::lookup l = 8 * goal.size-steps::lookup l + 2
 abbrev pub decreases-steps::computed_key : goal.decreases-steps::computed_key
 decreases-steps::computed_key l = 8 * (size-Expr (List ℕ) (List ℕ) TypeName l.value.now) + 1
 
-abbrev pub decreases-choices::choice : goal.decreases-choices::choice
-decreases-choices::choice l = 8 * (max (max (size-Expr (List ℕ) (List ℕ) TypeName l.condition.now) (size-Expr (List ℕ) (List ℕ) TypeName l.when_true.now)) (size-Expr (List ℕ) (List ℕ) TypeName l.when_false.now)) + 5
+abbrev pub decreases-choices::if_else : goal.decreases-choices::if_else
+decreases-choices::if_else l = 8 * (max (max (size-Expr (List ℕ) (List ℕ) TypeName l.condition.now) (size-Expr (List ℕ) (List ℕ) TypeName l.when_true.now)) (size-Expr (List ℕ) (List ℕ) TypeName l.when_false.now)) + 5
 
 abbrev pub decreases-choices::switch : goal.decreases-choices::switch
 decreases-choices::switch l = 8 * (max (max (goal.size-choices::switch l) (size-Expr (List ℕ) (List ℕ) TypeName l.operand.now)) (size-Expr (List ℕ) (List ℕ) TypeName l.default.now)) + 7
@@ -163,8 +163,8 @@ decreases-choices::type_case l = 8 * goal.size-choices::type_case l + 3
 abbrev pub decreases-choices::arm : goal.decreases-choices::arm
 decreases-choices::arm l = 8 * (size-Expr (List ℕ) (List ℕ) TypeName l.value.now) + 2
 
-abbrev pub decreases-choices::tried : goal.decreases-choices::tried
-decreases-choices::tried l = 8 * (max (goal.size-choices::tried l) (size-Expr (List ℕ) (List ℕ) TypeName l.body.now)) + 7
+abbrev pub decreases-choices::try_catch : goal.decreases-choices::try_catch
+decreases-choices::try_catch l = 8 * (max (goal.size-choices::try_catch l) (size-Expr (List ℕ) (List ℕ) TypeName l.body.now)) + 7
 
 abbrev pub decreases-choices::catches : goal.decreases-choices::catches
 decreases-choices::catches l = 8 * goal.size-choices::catches l + 4
