@@ -1,41 +1,18 @@
--- What arithmetic on fixed numbers tells is what the definitions compute.
-use Rattle.std.proofs.Common.{◌≡◌, ◌≢◌, inl, inr, zero, suc, ℤ, pos, negsuc, int_div, int_rem, true, Result, Ok, Err, IfOk, IfErr, refl, ap, subst, arith}
-use Rattle.std.proofs.lemmas.Bool.{cases_Bool}
+-- What divisions of fixed numbers tell is what the definitions compute.
+use Rattle.std.proofs.Common.{◌≡◌, ◌≢◌, zero, suc, ℤ, pos, negsuc, int_div, int_rem, true, Result, Ok, Err, IfOk, IfErr, refl, ap, arith}
 use Rattle.std.proofs.lemmas.Int.{ints}
-use Rattle.item_tree.specs.declared.code.Code.TheVariants.{FOAR0002}
 use Rattle.item_tree.specs.Truth.{is_not_zero}
-use Rattle.num_fixed.specs.Bounds.{InBounds, NumberInBounds, IsOver}
+use Rattle.num_fixed.specs.Bounds.{InBounds, IsOver}
 use Rattle.num_fixed.specs.Laws.{IsSingle}
 use Rattle.num_fixed.specs.Quotients.{IsFault, IsRemainder}
-use Rattle.num_fixed.specs.Values.{in_bounds}
 use Rattle.num_fixed.specs.declared.number.Kind.{Kind}
-use Rattle.num_fixed.specs.declared.number.Kind.TheVariants.{Whole, Units}
 use Rattle.num_fixed.specs.declared.number.NumFault.{NumFault}
 use Rattle.num_fixed.specs.declared.number.NumFault.TheVariants.{ZeroDivisor, Overflow}
 use Rattle.num_fixed.proofs.DivisionLemmas.{divided}
-use Rattle.num_fixed.proofs.ValueLemmas.{inside, tested_inside, one_remainder}
-use Rattle.atom_ops.specs.Arithmetic.{number_of, bounded, divided_by}
-use Rattle.atom_ops.specs.inside.Told.{told}
-
-is_inside : (kind : Kind) (m n : ℤ) → m ≡ n → InBounds kind m → Ok (number_of kind m) ≡ bounded kind n
-is_inside kind m n e h =
-    let t : in_bounds kind n ≡ true = (tested_inside kind n).1 (subst (InBounds kind) e h) in
-    rw t (ap (λ k. Ok (number_of kind k)) e)
-
-is_outside : (kind : Kind) (n : ℤ) → ¬ InBounds kind n → Err FOAR0002 ≡ bounded kind n
-is_outside kind n h = elim (cases_Bool (in_bounds kind n)) [ inl e ↦ absurd (h (inside kind n e)) | inr e ↦ rw e refl ]
-
--- the number itself, where it is in bounds
-pub told_number : (kind : Kind) (n : ℤ) (r : Result ℤ NumFault) → IfOk r (λ m. (m ≡ n) × InBounds kind m) → IfErr r (λ e. (e ≡ Overflow) × (¬ InBounds kind n)) → told kind r ≡ bounded kind n
-told_number kind n (Ok m) h g = is_inside kind m n h.0 h.1
-told_number kind n (Err ZeroDivisor) h g = absurd cc
-told_number kind n (Err Overflow) h g = is_outside kind n g.1
-
--- the one number that has a property
-pub told_one : (kind : Kind) (P : ℤ → Type 0) (n : ℤ) → P n → IsSingle P → (r : Result ℤ NumFault) → IfOk r (λ m. P m × InBounds kind m) → IfErr r (λ e. (e ≡ Overflow) × IsOver kind P) → told kind r ≡ bounded kind n
-told_one kind P n has one (Ok m) h g = is_inside kind m n (one m n h.0 has) h.1
-told_one kind P n has one (Err ZeroDivisor) h g = absurd cc
-told_one kind P n has one (Err Overflow) h g = is_outside kind n (g.1 n has)
+use Rattle.num_fixed.proofs.ValueLemmas.{one_remainder}
+use Rattle.value_rules.specs.Results.{number_of, bounded, told}
+use Rattle.value_rules.proofs.ToldLemmas.{is_inside, is_outside}
+use Rattle.atom_ops.specs.Arithmetic.{divided_by}
 
 not_zero : (b : ℤ) → b ≢ pos 0 → is_not_zero b ≡ true
 not_zero (pos zero) h = absurd (h refl)
@@ -58,12 +35,3 @@ told_remainder kind a b (Ok m) h g =
     rw (not_zero b some) (ap (λ k. Ok (number_of kind k)) (one_remainder a b m (int_rem a b) h.0 (int_div a b, divided a b some)))
 told_remainder kind a b (Err ZeroDivisor) h g = rw g.1 refl
 told_remainder kind a b (Err Overflow) h g = absurd cc
-
-number_inside : (kind : Kind) (m : ℤ) → InBounds kind m → NumberInBounds (number_of kind m)
-number_inside Whole m h = h
-number_inside Units m h = h
-
-pub remainder_inside : (kind : Kind) (a b : ℤ) (r : Result ℤ NumFault) → IfOk r (λ m. IsRemainder a b m × InBounds kind m) → IfOk (told kind r) NumberInBounds
-remainder_inside kind a b (Ok m) h = number_inside kind m h.1
-remainder_inside kind a b (Err ZeroDivisor) h = tt
-remainder_inside kind a b (Err Overflow) h = tt

@@ -1,13 +1,13 @@
 -- Arithmetic on two operands, and the sign of one.
 use Rattle.std.specs.Prelude.{ℤ, ◌+ℤ◌, ◌-ℤ◌, neg_ℤ, int_div, int_rem, if◌then◌else◌, List, [], ◌∷◌, Option, Some, None, option_map, Result, Ok, Err}
 use Rattle.item_tree.specs.declared.code.Code.{Code}
-use Rattle.item_tree.specs.declared.code.Code.TheVariants.{FOAR0001, FOAR0002}
+use Rattle.item_tree.specs.declared.code.Code.TheVariants.{FOAR0001}
 use Rattle.item_tree.specs.declared.item.Item.{Item}
-use Rattle.item_tree.specs.Datum.{Datum, integer, decimal}
+use Rattle.item_tree.specs.Datum.{Datum}
 use Rattle.item_tree.specs.Item.{datum}
 use Rattle.item_tree.specs.Truth.{is_not_zero}
 use Rattle.num_fixed.specs.Rounding.{units_of}
-use Rattle.num_fixed.specs.Values.{in_bounds, near_unit, product}
+use Rattle.num_fixed.specs.Values.{near_unit, product}
 use Rattle.num_fixed.specs.declared.number.Kind.{Kind}
 use Rattle.num_fixed.specs.declared.number.Kind.TheVariants.{Whole, Units}
 use Rattle.num_fixed.specs.declared.number.Number.{Number}
@@ -15,18 +15,7 @@ use Rattle.num_fixed.specs.declared.number.Number.TheVariants.{Int, Dec}
 use Rattle.atom_ops.specs.declared.arithmetic.Arith.{Arith}
 use Rattle.atom_ops.specs.declared.arithmetic.Arith.TheVariants.{Add, Sub, Mul, Div, Idiv, Mod}
 use Rattle.value_rules.specs.Operands.{and_then, one_number}
-
-abbrev pub number_of : Kind → ℤ → Number
-number_of Whole n = Int n
-number_of Units m = Dec m
-
-abbrev pub number_datum : Number → Datum
-number_datum (Int n) = integer n
-number_datum (Dec m) = decimal m
-
--- a number of this kind, which must be in bounds
-abbrev pub bounded : Kind → ℤ → Result Number Code
-bounded kind n = if in_bounds kind n then Ok (number_of kind n) else Err FOAR0002
+use Rattle.value_rules.specs.Results.{number_of, number_datum, bounded}
 
 -- what there is for a divisor that is not zero
 abbrev pub divided_by : ℤ → Result Number Code → Result Number Code

@@ -2,10 +2,12 @@
 use Rattle.std.specs.Prelude.{ℕ, ◌-◌, ◌==◌, nat_lt, pos, Bool, true, false, ◌&&◌, ◌||◌, if◌then◌else◌, List, [], ◌∷◌, length, take, drop, codes, Option, Some, None, Result, Ok, Err}
 use Rattle.std.specs.Char.{is_ascii_digit}
 use Rattle.std.specs.List.{list_all, prefix_len, suffix_len}
+use Rattle.std.specs.Option.{ok_or}
 use Rattle.std.specs.Str.{bytes_eq, encode_utf8_all}
 use Rattle.item_tree.specs.declared.code.Code.{Code}
 use Rattle.item_tree.specs.declared.code.Code.TheVariants.{XPTY0004, FOAR0002, FORG0001}
-use Rattle.item_tree.specs.Datum.{Datum, null, boolean, integer, decimal, text}
+use Rattle.item_tree.specs.Datum.{Datum, null, boolean, integer, decimal, text, date, date_time}
+use Rattle.item_tree.specs.Dates.{Date, DateTime}
 use Rattle.item_tree.specs.ItemText.{atom_text}
 use Rattle.item_tree.specs.Truth.{is_not_zero}
 use Rattle.num_fixed.specs.Fronts.{sign_first, fraction_of}
@@ -15,8 +17,11 @@ use Rattle.num_fixed.specs.Scan.{behind_sign, digits_len}
 use Rattle.num_fixed.specs.Values.{number_in_bounds, said, whole_of}
 use Rattle.num_fixed.specs.declared.number.Number.{Number}
 use Rattle.num_fixed.specs.declared.number.Number.TheVariants.{Int, Dec}
-use Rattle.atom_ops.specs.Arithmetic.{number_datum}
+use Rattle.date_atoms.specs.Values.{said_date, said_moment}
+use Rattle.seq_types.specs.declared.types.ItemType.{ItemType}
+use Rattle.seq_types.specs.declared.types.ItemType.TheVariants as type
 use Rattle.value_rules.specs.Operands.{and_then, one_atomic}
+use Rattle.value_rules.specs.Results.{number_datum}
 
 -- ---- the texts of numbers
 
@@ -108,22 +113,49 @@ boolean_from _ = Err FORG0001
 abbrev pub null_in : List ℕ → Result Datum Code
 null_in l = if bytes_eq l (codes "null") then Ok null else Err FORG0001
 
-abbrev pub string_cast : Datum → Result Datum Code
-string_cast v = Ok (text (atom_text v))
+-- as a date: a date-time without its time of day
+abbrev pub date_from : Datum → Result Date Code
+date_from (date d) = Ok d
+date_from (date_time t) = Ok t.date
+date_from (text t) = ok_or (said_date (bare t)) FORG0001
+date_from _ = Err FORG0001
 
-abbrev pub integer_cast : Datum → Result Datum Code
-integer_cast v = and_then (integer_from v) (λ x. Ok (number_datum x))
+-- the moment with which a date begins
+abbrev pub midnight : Date → DateTime
+midnight d = record { date = d; nanos = 0 }
 
-abbrev pub decimal_cast : Datum → Result Datum Code
-decimal_cast v = and_then (decimal_from v) (λ x. Ok (number_datum x))
+abbrev pub moment_from : Datum → Result DateTime Code
+moment_from (date d) = Ok (midnight d)
+moment_from (date_time t) = Ok t
+moment_from (text t) = ok_or (said_moment (bare t)) FORG0001
+moment_from _ = Err FORG0001
 
-abbrev pub boolean_cast : Datum → Result Datum Code
-boolean_cast v = and_then (boolean_from v) (λ b. Ok (boolean b))
+abbrev pub null_from : Datum → Result Datum Code
+null_from null = Ok null
+null_from (text t) = null_in (bare t)
+null_from _ = Err FORG0001
 
-abbrev pub null_cast : Datum → Result Datum Code
-null_cast null = Ok null
-null_cast (text t) = null_in (bare t)
-null_cast _ = Err FORG0001
+-- the types that a cast may have
+abbrev pub is_cast_to : ItemType → Bool
+is_cast_to type.Text = true
+is_cast_to type.Integer = true
+is_cast_to type.Decimal = true
+is_cast_to type.Boolean = true
+is_cast_to type.Null = true
+is_cast_to type.Date = true
+is_cast_to type.DateTime = true
+is_cast_to _ = false
+
+-- an atomic as a value of a type, where a cast may have that type
+abbrev pub cast_to : ItemType → Datum → Result Datum Code
+cast_to type.Text v = Ok (text (atom_text v))
+cast_to type.Integer v = and_then (integer_from v) (λ x. Ok (number_datum x))
+cast_to type.Decimal v = and_then (decimal_from v) (λ x. Ok (number_datum x))
+cast_to type.Boolean v = and_then (boolean_from v) (λ b. Ok (boolean b))
+cast_to type.Null v = null_from v
+cast_to type.Date v = and_then (date_from v) (λ d. Ok (date d))
+cast_to type.DateTime v = and_then (moment_from v) (λ t. Ok (date_time t))
+cast_to _ v = Err FORG0001
 
 -- ---- casts of an operand
 
@@ -132,9 +164,9 @@ abbrev pub cast_operand : Bool → List Datum → Result (Option Datum) Code
 cast_operand optional [] = if optional then Ok None else Err XPTY0004
 cast_operand optional (v ∷ vs) = and_then (one_atomic (v ∷ vs)) (λ x. Ok (Some x))
 
-abbrev pub cast_of : (Datum → Result Datum Code) → Option Datum → Result (Option Datum) Code
-cast_of f None = Ok None
-cast_of f (Some v) = and_then (f v) (λ w. Ok (Some w))
+abbrev pub cast_of : ItemType → Option Datum → Result (Option Datum) Code
+cast_of to None = Ok None
+cast_of to (Some v) = and_then (cast_to to v) (λ w. Ok (Some w))
 
-abbrev pub cast_by : (Datum → Result Datum Code) → Bool → List Datum → Result (Option Datum) Code
-cast_by f optional vs = and_then (cast_operand optional vs) (cast_of f)
+abbrev pub cast_value : ItemType → Bool → List Datum → Result (Option Datum) Code
+cast_value to optional vs = and_then (cast_operand optional vs) (cast_of to)

@@ -1,4 +1,3 @@
-pub mod inside
 pub mod Comparison
 pub mod Arithmetic
 pub mod Ranges

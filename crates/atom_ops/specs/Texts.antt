@@ -1,14 +1,9 @@
 -- The texts of two operands, put together.
-use Rattle.std.specs.Prelude.{ℕ, List, [], ◌++◌, Option, Some, None, Result, Ok}
+use Rattle.std.specs.Prelude.{List, ◌++◌, Result, Ok}
 use Rattle.item_tree.specs.declared.code.Code.{Code}
 use Rattle.item_tree.specs.Datum.{Datum, text}
-use Rattle.item_tree.specs.ItemText.{atom_text}
 use Rattle.value_rules.specs.Operands.{and_then, optional_atomic}
-
--- what is not there has the empty text
-abbrev pub optional_text : Option Datum → List ℕ
-optional_text None = []
-optional_text (Some v) = atom_text v
+use Rattle.value_rules.specs.Strings.{optional_text}
 
 abbrev pub joined_texts : List Datum → List Datum → Result Datum Code
 joined_texts vs ws =

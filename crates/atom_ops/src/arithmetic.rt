@@ -1,12 +1,11 @@
 ghost use Rattle.std.specs.Prelude.{◌≡◌, IfOk};
-ghost use Rattle.item_tree.specs.Item.{datum, datums};
+ghost use Rattle.item_tree.specs.Item.{datums};
 ghost use Rattle.num_fixed.specs.Bounds.{InBounds, NumberInBounds};
-ghost use Rattle.atom_ops.specs.Arithmetic.{number_datum, calculation, calculated, arithmetic, negation, value_given};
-ghost use Rattle.atom_ops.specs.inside.Told.{told};
+ghost use Rattle.atom_ops.specs.Arithmetic.{calculation, calculated, arithmetic, negation, value_given};
 
-use item_tree::{Code, Item, Units, Whole};
-use num_fixed::{Kind, NumFault, Number, add, div, idiv, mul, rem, sub, to_units};
-use value_rules::one_number;
+use item_tree::{Code, Item};
+use num_fixed::{Kind, Number, add, div, idiv, mul, rem, sub, to_units};
+use value_rules::{item_of, one_number, told};
 
 /// An operation on two numbers.
 #[derive(Clone, Copy, Debug, PartialEq, Eq)]
@@ -54,16 +53,6 @@ pub fn negate(a: &[Item]) -> Result<Option<Item>, Code>
     Ok(Some(item_of(number)))
 }
 
-pub(crate) fn item_of(number: Number) -> Item
-    requires { NumberInBounds number }
-    ensures { datum result ≡ number_datum number }
-{
-    match number {
-        Number::Int(n) => Item::Int(Whole::new(n)),
-        Number::Dec(m) => Item::Dec(Units::new(m)),
-    }
-}
-
 fn calculate(op: Arith, x: Number, y: Number) -> Result<Number, Code>
     requires left { NumberInBounds x }
     requires right { NumberInBounds y }
@@ -93,18 +82,5 @@ fn of_kind(op: Arith, kind: Kind, a: i128, b: i128) -> Result<Number, Code>
         Arith::Div => told(Kind::Units, div(a, b)),
         Arith::Idiv => told(Kind::Whole, idiv(a, b)),
         Arith::Mod => told(kind, rem(a, b, kind)),
-    }
-}
-
-fn told(kind: Kind, number: Result<i128, NumFault>) -> Result<Number, Code>
-    ensures { result ≡ told kind number }
-{
-    match number {
-        Ok(n) => Ok(match kind {
-            Kind::Whole => Number::Int(n),
-            Kind::Units => Number::Dec(n),
-        }),
-        Err(NumFault::ZeroDivisor) => Err(Code::FOAR0001),
-        Err(NumFault::Overflow) => Err(Code::FOAR0002),
     }
 }

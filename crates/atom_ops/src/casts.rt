@@ -1,70 +1,34 @@
-ghost use Rattle.std.specs.Prelude.{◌≡◌, Some, Ok, Err, MatchResult, IfOk, IfErr, IfSome, option_map};
+ghost use Rattle.std.specs.Prelude.{◌≡◌, Ok, Err, IsTrue, MatchResult, IfOk, IfErr, IfSome, option_map};
 ghost use Rattle.item_tree.specs.Datum.{IsAtomic};
 ghost use Rattle.item_tree.specs.Item.{datum, datums};
-ghost use Rattle.num_fixed.specs.Bounds.{NumberInBounds};
-ghost use Rattle.atom_ops.specs.Arithmetic.{value_given};
-ghost use Rattle.atom_ops.specs.Casts.{as_decimal, integer_from, decimal_from, truth_in, boolean_from, null_in, string_cast, integer_cast, decimal_cast, boolean_cast, null_cast, cast_operand, cast_of, cast_by};
 ghost use Rattle.value_rules.specs.Operands.{FailsWith};
+ghost use Rattle.atom_ops.specs.Casts.{is_cast_to, cast_to, cast_operand, cast_value};
 
-use crate::arithmetic::item_of;
-use crate::number_texts::{number_in, trimmed};
+use crate::cast_rows::{
+    boolean_from, date_from, decimal_from, integer_from, moment_from, null_from,
+};
 use item_tree::{Code, Item, OpFault, text_of};
-use num_fixed::{Number, to_units, whole_part};
+use seq_types::ItemType;
 use std::alloc::Global;
-use value_rules::one_atomic;
+use value_rules::{item_of, one_atomic};
 
-/// Casts to a string: the text of the operand.
-pub fn cast_to_string(alloc: Global, a: &[Item], optional: bool) -> Result<Option<Item>, OpFault>
+/// Casts one atomic to a type that a cast may have: string, integer, decimal, boolean, null, date
+/// or date-time. `None` exactly where the operand is empty and may be. A value that the type's
+/// table does not take is FORG0001, and a string of a number that is out of bounds FOAR0002.
+pub fn cast(
+    alloc: Global,
+    a: &[Item],
+    to: ItemType,
+    optional: bool,
+) -> Result<Option<Item>, OpFault>
+    requires { IsTrue (is_cast_to to) }
     ensures value { IfOk result
-        (λ o. cast_by string_cast optional (datums a.now) ≡ Ok (option_map datum o)) }
-    ensures fault { IfErr result (FailsWith (cast_by string_cast optional (datums a.now))) }
+        (λ o. cast_value to optional (datums a.now) ≡ Ok (option_map datum o)) }
+    ensures fault { IfErr result (FailsWith (cast_value to optional (datums a.now))) }
 {
     match cast_operand(a, optional)? {
         None => Ok(None),
-        Some(x) => Ok(Some(Item::Text(text_of(alloc, x)?))),
-    }
-}
-
-/// Casts to an integer: a decimal without its part behind the point, true and false as 1 and 0, and
-/// a string of digits, with a sign or without one.
-pub fn cast_to_integer(a: &[Item], optional: bool) -> Result<Option<Item>, Code>
-    ensures { value_given result ≡ cast_by integer_cast optional (datums a.now) }
-{
-    match cast_operand(a, optional)? {
-        None => Ok(None),
-        Some(x) => Ok(Some(item_of(integer_from(x)?))),
-    }
-}
-
-/// Casts to a decimal: a number of the same value, true and false as 1 and 0, and a string of
-/// digits with a point or without one, with a sign or without one, to the nearest unit.
-pub fn cast_to_decimal(a: &[Item], optional: bool) -> Result<Option<Item>, Code>
-    ensures { value_given result ≡ cast_by decimal_cast optional (datums a.now) }
-{
-    match cast_operand(a, optional)? {
-        None => Ok(None),
-        Some(x) => Ok(Some(item_of(decimal_from(x)?))),
-    }
-}
-
-/// Casts to a boolean: a number by whether it is zero, and the strings `true`, `1`, `false` and
-/// `0`.
-pub fn cast_to_boolean(a: &[Item], optional: bool) -> Result<Option<Item>, Code>
-    ensures { value_given result ≡ cast_by boolean_cast optional (datums a.now) }
-{
-    match cast_operand(a, optional)? {
-        None => Ok(None),
-        Some(x) => Ok(Some(Item::Bool(boolean_from(x)?))),
-    }
-}
-
-/// Casts to null: null itself, and the string `null`.
-pub fn cast_to_null(a: &[Item], optional: bool) -> Result<Option<Item>, Code>
-    ensures { value_given result ≡ cast_by null_cast optional (datums a.now) }
-{
-    match cast_operand(a, optional)? {
-        None => Ok(None),
-        Some(x) => null_from(x),
+        Some(x) => Ok(Some(cast_atomic(alloc, x, to)?)),
     }
 }
 
@@ -84,83 +48,24 @@ fn cast_operand(s: &[Item], optional: bool) -> Result<Option<&Item>, Code>
     Ok(Some(one_atomic(s)?))
 }
 
-fn integer_from(x: &Item) -> Result<Number, Code>
-    ensures value { result ≡ integer_from (datum x.now) }
-    ensures within { IfOk result NumberInBounds }
+fn cast_atomic(alloc: Global, x: &Item, to: ItemType) -> Result<Item, OpFault>
+    requires atomic { IsAtomic (datum x.now) }
+    requires castable { IsTrue (is_cast_to to) }
+    ensures value { IfOk result (λ y. cast_to to (datum x.now) ≡ Ok (datum y)) }
+    ensures fault { IfErr result (FailsWith (cast_to to (datum x.now))) }
 {
-    match x {
-        Item::Int(n) => Ok(Number::Int(n.get())),
-        Item::Dec(m) => Ok(Number::Int(whole_part(m.get()))),
-        Item::Bool(true) => Ok(Number::Int(1)),
-        Item::Bool(false) => Ok(Number::Int(0)),
-        Item::Text(t) => number_in(false, trimmed(t.as_str().as_bytes())),
-        _ => Err(Code::FORG0001),
-    }
-}
-
-fn decimal_from(x: &Item) -> Result<Number, Code>
-    ensures value { result ≡ decimal_from (datum x.now) }
-    ensures within { IfOk result NumberInBounds }
-{
-    match x {
-        Item::Int(n) => Ok(Number::Dec(to_units(n.get()))),
-        Item::Dec(m) => Ok(Number::Dec(m.get())),
-        Item::Bool(true) => Ok(Number::Dec(1_000_000)),
-        Item::Bool(false) => Ok(Number::Dec(0)),
-        Item::Text(t) => match number_in(true, trimmed(t.as_str().as_bytes())) {
-            Ok(number) => Ok(as_decimal(number)),
-            Err(code) => Err(code),
-        },
-        _ => Err(Code::FORG0001),
-    }
-}
-
-fn as_decimal(number: Number) -> Number
-    requires { NumberInBounds number }
-    ensures value { result ≡ as_decimal number }
-    ensures within { NumberInBounds result }
-{
-    match number {
-        Number::Int(n) => Number::Dec(to_units(n)),
-        Number::Dec(m) => Number::Dec(m),
-    }
-}
-
-fn boolean_from(x: &Item) -> Result<bool, Code>
-    ensures { result ≡ boolean_from (datum x.now) }
-{
-    match x {
-        Item::Bool(b) => Ok(*b),
-        Item::Int(n) => Ok(n.get() != 0),
-        Item::Dec(m) => Ok(m.get() != 0),
-        Item::Text(t) => truth_in(trimmed(t.as_str().as_bytes())),
-        _ => Err(Code::FORG0001),
-    }
-}
-
-fn truth_in(text: &[u8]) -> Result<bool, Code>
-    ensures { result ≡ truth_in text.now }
-{
-    if text == b"true".as_slice() || text == b"1".as_slice() {
-        Ok(true)
-    } else if text == b"false".as_slice() || text == b"0".as_slice() {
-        Ok(false)
-    } else {
-        Err(Code::FORG0001)
-    }
-}
-
-fn null_from(x: &Item) -> Result<Option<Item>, Code>
-    ensures { value_given result ≡ cast_of null_cast (Some (datum x.now)) }
-{
-    let is_null = match x {
-        Item::Null => true,
-        Item::Text(t) => trimmed(t.as_str().as_bytes()) == b"null".as_slice(),
-        _ => false,
-    };
-    if is_null {
-        Ok(Some(Item::Null))
-    } else {
-        Err(Code::FORG0001)
+    match to {
+        ItemType::Text => Ok(Item::Text(text_of(alloc, x)?)),
+        ItemType::Integer => Ok(item_of(integer_from(x)?)),
+        ItemType::Decimal => Ok(item_of(decimal_from(x)?)),
+        ItemType::Boolean => Ok(Item::Bool(boolean_from(x)?)),
+        ItemType::Null => Ok(null_from(x)?),
+        ItemType::Date => Ok(Item::Date(date_from(x)?)),
+        ItemType::DateTime => Ok(Item::DateTime(moment_from(x)?)),
+        ItemType::Item
+        | ItemType::JsonItem
+        | ItemType::Object
+        | ItemType::Array
+        | ItemType::Atomic => unreachable!(),
     }
 }

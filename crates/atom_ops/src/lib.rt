@@ -2,15 +2,17 @@
 #![tactic(auto)]
 
 mod arithmetic;
+mod cast_rows;
 mod casts;
 mod comparison;
+mod date_texts;
 pub mod laws;
 mod number_texts;
 mod ranges;
 mod texts;
 
 pub use arithmetic::{Arith, arith_op, negate};
-pub use casts::{cast_to_boolean, cast_to_decimal, cast_to_integer, cast_to_null, cast_to_string};
+pub use casts::cast;
 pub use comparison::{Cmp, general_cmp, value_cmp};
 pub use ranges::range;
 pub use texts::concat_text;

@@ -2,7 +2,8 @@ ghost use Rattle.std.specs.Prelude.{◌≡◌, ◌++◌, Ok, Err, MatchResult, I
 ghost use Rattle.item_tree.specs.Datum.{IsAtomic};
 ghost use Rattle.item_tree.specs.Item.{datum, datums};
 ghost use Rattle.value_rules.specs.Operands.{FailsWith};
-ghost use Rattle.atom_ops.specs.Texts.{optional_text, joined_texts};
+ghost use Rattle.value_rules.specs.Strings.{optional_text};
+ghost use Rattle.atom_ops.specs.Texts.{joined_texts};
 
 use item_tree::{Code, Item, NoMemory, OpFault, Str, text_of};
 use std::alloc::Global;

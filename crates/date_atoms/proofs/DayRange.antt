@@ -1,5 +1,5 @@
 -- Each number in the range of day numbers is a date's: from each date but the last the next is
--- reached.
+-- reached. And which date is the next. For other crates too.
 use Rattle.std.proofs.Common.{◌≡◌, ℕ, zero, suc, inl, inr, ◌+◌, ◌-◌, ◌<◌, ◌≤◌, refl, sym, ap, ◌∙◌, arith, ℤ, pos, negsuc, ◌-ℤ◌, ◌≤ℤ◌}
 use Rattle.std.proofs.lemmas.Bool.{cases_lt}
 use Rattle.jiff_core.proofs.SignedLemmas.{signed_arith}
@@ -19,11 +19,11 @@ no_months : (y : ℕ) → days_of_months y 0 ≡ 0
 unfolding days_of_months
 no_months y = refl
 
-first_is : day_count first_date ≡ 1
+pub first_is : day_count first_date ≡ 1
 unfolding day_count days_of_years days_of_months
 first_is = refl
 
-number_of : (d : Date) → day_number d ≡ (pos (day_count d) -ℤ pos 719163)
+pub number_of : (d : Date) → day_number d ≡ (pos (day_count d) -ℤ pos 719163)
 unfolding day_number
 number_of d = ap (λ n. pos (day_count d) -ℤ pos n) first_count
 
@@ -37,12 +37,16 @@ month_length y m = grind arith
 abbrev Counts : ℕ → Type 0
 Counts n = (d : Date) × IsDate d × (day_count d ≡ n)
 
-next_day : (d : Date) → IsDate d → d.day < days_in_month d.year d.month → Counts (suc (day_count d))
+-- the second date is the day after the first
+abbrev pub IsNext : Date → Date → Type 0
+IsNext d e = IsDate e × (day_count e ≡ suc (day_count d))
+
+pub next_day : (d : Date) → IsDate d → d.day < days_in_month d.year d.month → IsNext d (record { year = d.year; month = d.month; day = d.day + 1 })
 next_day d h l =
     let e : Date = record { year = d.year; month = d.month; day = d.day + 1 } in
-    (e, (h.0, h.1, (omega arith, omega (arith, l))), omega (arith, counted d, counted e))
+    ((h.0, h.1, (omega arith, omega (arith, l))), omega (arith, counted d, counted e))
 
-next_first : (d : Date) → IsDate d → d.day ≡ days_in_month d.year d.month → d.month < 12 → Counts (suc (day_count d))
+pub next_first : (d : Date) → IsDate d → d.day ≡ days_in_month d.year d.month → d.month < 12 → IsNext d (record { year = d.year; month = d.month + 1; day = 1 })
 next_first d h l m =
     let e : Date = record { year = d.year; month = d.month + 1; day = 1 } in
     let b : d.month + 1 - 1 ≡ d.month = omega arith in
@@ -50,9 +54,9 @@ next_first d h l m =
     let f = ap (λ n. days_of_months d.year n) b in
     let g = ap (λ n. days_of_months d.year n) s in
     let k = ap (λ n. days_in_month d.year n) s in
-    (e, (h.0, (omega arith, omega (arith, m)), (omega arith, omega (arith, (month_length d.year (d.month + 1)).0))), omega (arith, counted d, counted e, next_month d.year (d.month - 1), f, g, k, l))
+    ((h.0, (omega arith, omega (arith, m)), (omega arith, omega (arith, (month_length d.year (d.month + 1)).0))), omega (arith, counted d, counted e, next_month d.year (d.month - 1), f, g, k, l))
 
-next_january : (d : Date) → IsDate d → d.day ≡ days_in_month d.year d.month → d.month ≡ 12 → d.year < 9999 → Counts (suc (day_count d))
+pub next_january : (d : Date) → IsDate d → d.day ≡ days_in_month d.year d.month → d.month ≡ 12 → d.year < 9999 → IsNext d (record { year = d.year + 1; month = 1; day = 1 })
 next_january d h l m y =
     let e : Date = record { year = d.year + 1; month = 1; day = 1 } in
     let b : d.year + 1 - 1 ≡ d.year = omega arith in
@@ -62,26 +66,28 @@ next_january d h l m y =
     let k = ap (λ n. days_in_year n) s in
     let before = ap (λ n. days_of_months d.year (n - 1)) m in
     let december = ap (λ n. days_in_month d.year n) m in (
-      e,
       ((omega arith, omega (arith, y)), (omega arith, omega arith), (omega arith, omega arith)),
       omega (arith, counted d, counted e, next_year (d.year - 1), f, g, k, l, before, december, months_of_year d.year, next_month d.year 11, no_months (d.year + 1)),
     )
 
-is_last : (d : Date) → IsDate d → d.day ≡ days_in_month d.year d.month → d.month ≡ 12 → d.year ≡ 9999 → day_count d ≡ 3652059
+pub is_last : (d : Date) → IsDate d → d.day ≡ days_in_month d.year d.month → d.month ≡ 12 → d.year ≡ 9999 → day_count d ≡ 3652059
 is_last d h l m y =
     let z : d.day ≡ 31 = l ∙ (λ i. days_in_month (y i) (m i)) in
     (λ i. day_count (record { year = y i; month = m i; day = z i })) ∙ last_count
 
+reached_by : (d e : Date) → IsNext d e → Counts (suc (day_count d))
+reached_by d e h = (e, h.0, h.1)
+
 next : (d : Date) → IsDate d → day_count d < 3652059 → Counts (suc (day_count d))
 next d h below =
     elim (cases_lt d.day (days_in_month d.year d.month)) [
-      | inl l ↦ next_day d h l
+      | inl l ↦ reached_by d _ (next_day d h l)
       | inr l ↦ let full : d.day ≡ days_in_month d.year d.month = omega (arith, l, h.2.1) in
           elim (cases_lt d.month 12) [
-            | inl m ↦ next_first d h full m
+            | inl m ↦ reached_by d _ (next_first d h full m)
             | inr m ↦ let december : d.month ≡ 12 = omega (arith, m, h.1.1) in
                 elim (cases_lt d.year 9999) [
-                  | inl y ↦ next_january d h full december y
+                  | inl y ↦ reached_by d _ (next_january d h full december y)
                   | inr y ↦ absurd (omega (arith, below, is_last d h full december (omega (arith, y, h.0.1))))
                 ]
           ]

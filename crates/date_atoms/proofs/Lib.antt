@@ -1,8 +1,10 @@
-mod CivilDays
+pub mod CivilDays
 mod DigitTexts
 mod TailTexts
 mod SaidTexts
-mod DayRange
+pub mod DayRange
 mod PrintedTexts
 mod TextRows
+pub mod ComputedTexts
 mod DecidedTexts
+pub mod ReadTexts

@@ -5,7 +5,7 @@ use Rattle.std.specs.Str.{chars, IsUtf8, IsAscii}
 use Rattle.std.specs.List.{prefix_len}
 use Rattle.std.proofs.Math.Utf8.{encodes}
 use Rattle.std.proofs.lemmas.List.{take-append-drop}
-use Rattle.std.proofs.lemmas.Str.{chars-IsAscii, encodes-chars, encodes-IsAscii, IsAscii-append}
+use Rattle.std.proofs.lemmas.Str.{chars-IsAscii, encodes-chars, encodes-IsAscii, IsAscii-append, IsUtf8-from_ascii}
 use Rattle.std.proofs.lemmas.Str.Ascii.{IsAscii-nil, IsAscii-cons}
 use Rattle.jiff_core.proofs.SignedLemmas.{signed_arith}
 use Rattle.item_tree.specs.Digits.{last_digits}
@@ -71,6 +71,18 @@ date_said bytes d h = (h.0, to_chars bytes (date_text d) (date_ascii d) h.1)
 
 pub date_unsaid : (bytes : List ℕ) (d : Date) → IsUtf8 bytes → IsDateText d (chars bytes) → IsDateText d bytes
 date_unsaid bytes d text h = (h.0, from_chars bytes (date_text d) text (date_ascii d) h.1)
+
+pub date_utf8 : (bytes : List ℕ) (d : Date) → IsDateText d bytes → IsUtf8 bytes
+date_utf8 bytes d h = subst (λ l. IsUtf8 l) (sym h.1) (IsUtf8-from_ascii (date_text d) (date_ascii d))
+
+pub moment_said : (bytes : List ℕ) (t : DateTime) → IsDateTimeText t bytes → IsDateTimeText t (chars bytes)
+moment_said bytes t h = (h.0, h.1, to_chars bytes (said_text h.0) (said_ascii h.0) h.2, h.3)
+
+pub moment_unsaid : (bytes : List ℕ) (t : DateTime) → IsUtf8 bytes → IsDateTimeText t (chars bytes) → IsDateTimeText t bytes
+moment_unsaid bytes t text h = (h.0, h.1, from_chars bytes (said_text h.0) text (said_ascii h.0) h.2, h.3)
+
+pub moment_utf8 : (bytes : List ℕ) (t : DateTime) → IsDateTimeText t bytes → IsUtf8 bytes
+moment_utf8 bytes t h = subst (λ l. IsUtf8 l) (sym h.2) (IsUtf8-from_ascii (said_text h.0) (said_ascii h.0))
 
 -- the same of what was read
 pub date_read : (r : Option Date) (bytes : List ℕ) → IsUtf8 bytes → MatchOption r ((d : Date) → ¬ IsDateText d bytes) (λ d. IsDateText d bytes) → MatchOption r ((d : Date) → ¬ IsDateText d (chars bytes)) (λ d. IsDateText d (chars bytes))

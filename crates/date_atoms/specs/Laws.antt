@@ -1,8 +1,9 @@
 -- Laws of day numbers and of texts.
-use Rattle.std.specs.Prelude.{◌≡◌, ◌⊎◌, ℕ, ℤ, pos, negsuc, List}
+use Rattle.std.specs.Prelude.{◌≡◌, ◌⊎◌, ℕ, ℤ, pos, negsuc, List, MatchOption}
 use Rattle.item_tree.specs.Dates.{Date, DateTime, IsDate, IsDateTime, day_number, date_text, date_time_text}
 use Rattle.date_atoms.specs.Sums.{IsDayNumber}
 use Rattle.date_atoms.specs.Texts.{IsDateText, IsDateTimeText}
+use Rattle.date_atoms.specs.Values.{said_date, said_moment}
 
 abbrev pub first_date : Date
 first_date = record { year = 1; month = 1; day = 1 }
@@ -33,3 +34,10 @@ pub record TextsAreDecided : Type 0 where
   pub date : (text : List ℕ) → ((d : Date) × IsDateText d text) ⊎ ((d : Date) → ¬ IsDateText d text)
   pub date_time : (text : List ℕ) → ((t : DateTime) × IsDateTimeText t text)
       ⊎ ((t : DateTime) → ¬ IsDateTimeText t text)
+
+-- what each text says is computed: the date, or that it says none, and the moment or none
+pub record TextsCompute : Type 0 where
+  pub date : (text : List ℕ) → MatchOption (said_date text)
+      ((d : Date) → ¬ IsDateText d text) (λ d. IsDateText d text)
+  pub date_time : (text : List ℕ) → MatchOption (said_moment text)
+      ((t : DateTime) → ¬ IsDateTimeText t text) (λ t. IsDateTimeText t text)

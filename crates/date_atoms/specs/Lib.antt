@@ -1,4 +1,5 @@
 pub mod Texts
 pub mod Sums
+pub mod Values
 pub mod Laws
 pub mod inside

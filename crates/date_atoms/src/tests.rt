@@ -186,5 +186,6 @@ fn knows_laws(_rt: HostRuntime) {
     laws::days_are_reached();
     laws::texts_say_one();
     laws::texts_are_decided();
+    laws::texts_compute();
     laws::printed_texts_are_read();
 }

@@ -1,0 +1,5 @@
+pub mod ToldLemmas
+mod Rows
+pub mod EachLemmas
+pub mod FirstLemmas
+mod StringRows

@@ -1,33 +1,29 @@
 use crate::tests::operands::{code_cell, number, one, operands};
-use crate::{
-    cast_to_boolean, cast_to_decimal, cast_to_integer, cast_to_null, cast_to_string, laws,
-};
-use item_tree::{Code, Item, OpFault, Str, text_of};
+use crate::{cast, laws};
+use item_tree::{Day, Item, Moment, OpFault, Str, text_of};
+use seq_types::ItemType;
 use std::alloc::Global;
 use std::test::Fail;
 
-const TARGETS: [&str; 5] = ["string", "integer", "decimal", "boolean", "null"];
+const TARGETS: [&str; 7] = [
+    "string", "integer", "decimal", "boolean", "null", "date", "dateTime",
+];
 
-fn raised(value: Result<Option<Item>, Code>) -> Result<Option<Item>, OpFault> {
-    match value {
-        Ok(value) => Ok(value),
-        Err(code) => Err(OpFault::Raised(code)),
-    }
-}
-
-fn cast(alloc: Global, a: &[Item], to: &str, optional: bool) -> Result<Option<Item>, OpFault> {
+fn cast_as(alloc: Global, a: &[Item], to: &str, optional: bool) -> Result<Option<Item>, OpFault> {
     match to {
-        "string" => cast_to_string(alloc, a, optional),
-        "integer" => raised(cast_to_integer(a, optional)),
-        "decimal" => raised(cast_to_decimal(a, optional)),
-        "boolean" => raised(cast_to_boolean(a, optional)),
-        _ => raised(cast_to_null(a, optional)),
+        "string" => cast(alloc, a, ItemType::Text, optional),
+        "integer" => cast(alloc, a, ItemType::Integer, optional),
+        "decimal" => cast(alloc, a, ItemType::Decimal, optional),
+        "boolean" => cast(alloc, a, ItemType::Boolean, optional),
+        "null" => cast(alloc, a, ItemType::Null, optional),
+        "date" => cast(alloc, a, ItemType::Date, optional),
+        _ => cast(alloc, a, ItemType::DateTime, optional),
     }
 }
 
 // A string has quotes round it, and a decimal a `d` behind it.
 fn cell(alloc: Global, a: &[Item], to: &str, optional: bool) -> Result<String, Fail> {
-    let item = match cast(alloc, a, to, optional) {
+    let item = match cast_as(alloc, a, to, optional) {
         Ok(Some(item)) => item,
         Ok(None) => return Ok(String::from_str(alloc, "()")?),
         Err(OpFault::Raised(code)) => return Ok(String::from_str(alloc, code_cell(code))?),
@@ -42,25 +38,27 @@ fn cell(alloc: Global, a: &[Item], to: &str, optional: bool) -> Result<String, F
             Ok(format!(in alloc; "{}d", text.as_str())?)
         }
         Item::Text(text) => Ok(format!(in alloc; "'{}'", text.as_str())?),
-        _ => Err(Fail::new("no such cast")),
+        Item::Date(day) => Ok(String::from_str(alloc, day.text().as_str())?),
+        Item::DateTime(moment) => Ok(String::from_str(alloc, moment.text().as_str())?),
+        Item::Array(_) | Item::Object(_) => Err(Fail::new("no such cast")),
     }
 }
 
 #[test]
 fn casts_each_kind(rt: HostRuntime) -> Result<(), Fail> {
     let rows = [
-        // operand   string                   integer decimal boolean null
-        "()          ()                       ()      ()      ()      ()   ",
-        "null        'null'                   FORG1   FORG1   FORG1   null ",
-        "true        'true'                   1       1d      true    FORG1",
-        "7           '7'                      7       7d      true    FORG1",
-        "-2.5        '-2.5'                   -2      -2.5d   true    FORG1",
-        "a           'a'                      FORG1   FORG1   FORG1   FORG1",
-        "date        '2024-02-29'             FORG1   FORG1   FORG1   FORG1",
-        "date-time   '2024-02-29T00:00:00Z'   FORG1   FORG1   FORG1   FORG1",
-        "array       JNTY                     JNTY    JNTY    JNTY    JNTY ",
-        "object      JNTY                     JNTY    JNTY    JNTY    JNTY ",
-        "two         XPTY                     XPTY    XPTY    XPTY    XPTY ",
+        // operand string                 int   dec   bool  null  date       date-time
+        "()        ()                     ()    ()    ()    ()    ()         ()",
+        "null      'null'                 FORG1 FORG1 FORG1 null  FORG1      FORG1",
+        "true      'true'                 1     1d    true  FORG1 FORG1      FORG1",
+        "7         '7'                    7     7d    true  FORG1 FORG1      FORG1",
+        "-2.5      '-2.5'                 -2    -2.5d true  FORG1 FORG1      FORG1",
+        "a         'a'                    FORG1 FORG1 FORG1 FORG1 FORG1      FORG1",
+        "date      '2024-02-29'           FORG1 FORG1 FORG1 FORG1 2024-02-29 2024-02-29T00:00:00Z",
+        "date-time '2024-02-29T00:00:00Z' FORG1 FORG1 FORG1 FORG1 2024-02-29 2024-02-29T00:00:00Z",
+        "array     JNTY                   JNTY  JNTY  JNTY  JNTY  JNTY       JNTY",
+        "object    JNTY                   JNTY  JNTY  JNTY  JNTY  JNTY       JNTY",
+        "two       XPTY                   XPTY  XPTY  XPTY  XPTY  XPTY       XPTY",
     ];
     let alloc = rt.alloc();
     for (a, row) in operands(alloc)?.iter().zip(rows.iter()) {
@@ -150,9 +148,55 @@ fn casts_numbers(rt: HostRuntime) -> Result<(), Fail> {
         }
     }
     let a = one(alloc, Item::Bool(false))?;
-    for (to, want) in TARGETS.iter().zip(["'false'", "0", "0d", "false"].iter()) {
+    for (to, want) in TARGETS
+        .iter()
+        .zip(["'false'", "0", "0d", "false", "FORG1"].iter())
+    {
         let found = cell(alloc, &a, to, false)?;
         assert_eq!(rt; found.as_str(), *want, "false as {to}");
+    }
+    Ok(())
+}
+
+#[test]
+fn casts_to_dates(rt: HostRuntime) -> Result<(), Fail> {
+    let rows = [
+        // a string, and what it is cast to as a date and as a date-time
+        ("2024-02-29", "2024-02-29", "FORG1"),
+        (" \t2024-02-29\r\n", "2024-02-29", "FORG1"),
+        ("2023-02-29", "FORG1", "FORG1"),
+        ("\u{c}2024-02-29", "FORG1", "FORG1"),
+        ("\u{ff12}024-02-29", "FORG1", "FORG1"),
+        (
+            "2024-05-01T01:30:00.50+02:00",
+            "FORG1",
+            "2024-04-30T23:30:00.5Z",
+        ),
+        (" 2024-05-01T01:30:00\n", "FORG1", "2024-05-01T01:30:00Z"),
+        ("2024-02-28T23:30:00-00:30", "FORG1", "2024-02-29T00:00:00Z"),
+        ("2024-05-01 01:30:00", "FORG1", "FORG1"),
+        ("0001-01-01T00:00:00+00:01", "FORG1", "FORG1"),
+        ("9999-12-31T23:59:59-00:01", "FORG1", "FORG1"),
+    ];
+    let alloc = rt.alloc();
+    for (text, date, moment) in rows {
+        let a = one(alloc, Item::Text(Str::of(alloc, text)?))?;
+        let found = cell(alloc, &a, "date", false)?;
+        assert_eq!(rt; found.as_str(), date, "{text:?} as a date");
+        let found = cell(alloc, &a, "dateTime", false)?;
+        assert_eq!(rt; found.as_str(), moment, "{text:?} as a date-time");
+    }
+    let Some(day) = Day::new(2024, 4, 30) else {
+        return Err(Fail::new("no such day"));
+    };
+    let a = one(alloc, Item::DateTime(Moment::new(day, 84_600_500_000_000)))?;
+    for (to, want) in [
+        ("date", "2024-04-30"),
+        ("dateTime", "2024-04-30T23:30:00.5Z"),
+        ("string", "'2024-04-30T23:30:00.5Z'"),
+    ] {
+        let found = cell(alloc, &a, to, false)?;
+        assert_eq!(rt; found.as_str(), want, "a date-time as {to}");
     }
     Ok(())
 }

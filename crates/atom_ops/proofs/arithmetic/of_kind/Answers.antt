@@ -3,11 +3,12 @@ use Rattle.std.specs.Int.{w128}
 use Rattle.std.proofs.lemmas.Int.{to_z-of_z}
 use Rattle.num_fixed.specs.Bounds.{NumberInBounds}
 use Rattle.num_fixed.specs.Nearest.{IsNearestUnit}
-use Rattle.num_fixed.specs.Quotients.{IsProduct, IsTruncated}
+use Rattle.num_fixed.specs.Quotients.{IsProduct, IsTruncated, IsRemainder}
 use Rattle.num_fixed.specs.Values.{near_unit, product}
 use Rattle.num_fixed.specs.declared.number.Kind.TheVariants.{Whole, Units}
 use Rattle.num_fixed.proofs.ValueLemmas.{near_is, one_near, product_is, one_product, truncated_is, one_truncated}
-use Rattle.atom_ops.proofs.ToldLemmas.{told_number, told_one, told_quotient, told_remainder, remainder_inside}
+use Rattle.value_rules.proofs.ToldLemmas.{told_number, told_one, told_within}
+use Rattle.atom_ops.proofs.ToldLemmas.{told_quotient, told_remainder}
 use Rattle.atom_ops.proofs.arithmetic.of_kind.Goals as goal
 
 pub returns-in-Add-clause-value : goal.returns-in-Add-clause-value
@@ -43,4 +44,4 @@ returns-in-Mod-clause-value c =
 pub returns-in-Mod-clause-within : goal.returns-in-Mod-clause-within
 returns-in-Mod-clause-within c =
     let a = c.args.a in let b = c.args.b in
-    subst (λ r. IfOk r NumberInBounds) (sym c.told-in-Mod.ensures) (remainder_inside c.args.kind a b c.rem.result (rw (to_z-of_z w128 a c.ranges.a, to_z-of_z w128 b c.ranges.b) at c.rem.ensures.value))
+    subst (λ r. IfOk r NumberInBounds) (sym c.told-in-Mod.ensures) (told_within c.args.kind (IsRemainder a b) c.rem.result (rw (to_z-of_z w128 a c.ranges.a, to_z-of_z w128 b c.ranges.b) at c.rem.ensures.value))

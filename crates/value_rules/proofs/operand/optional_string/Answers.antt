@@ -1,4 +1,4 @@
-use Rattle.std.proofs.Common.{◌≡◌, [], length, refl, arith}
+use Rattle.std.proofs.Common.{◌≡◌, [], refl, arith}
 use Rattle.std.proofs.lemmas.List.{nil_from_length}
 use Rattle.std.proofs.lemmas.Str.{chars-nil}
 use Rattle.value_rules.proofs.operand.optional_string.Goals as goal
