@@ -1,0 +1,6 @@
+pub mod ListLemmas
+pub mod KeyLemmas
+pub mod ChoiceLemmas
+pub mod NestingLemmas
+pub mod GroupLemmas
+mod Rows

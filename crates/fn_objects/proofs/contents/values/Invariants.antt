@@ -1,0 +1,7 @@
+use Rattle.std.proofs.Common.{◌≡◌, map, take}
+use Rattle.item_tree.specs.Item.{datums}
+use Rattle.value_rules.specs.Objects.{all_pairs}
+use Rattle.fn_objects.proofs.contents.values.Given as goal
+
+abbrev pub invariant-loop-x : goal.invariant-loop-x
+invariant-loop-x l = datums l.found.items ≡ map (λ p. p.1) (all_pairs (datums (take l.x-index l.s)))

@@ -1,0 +1,6 @@
+-- How contracts of private functions see the code. No reader of the language, and no caller,
+-- needs these.
+pub mod KeySets
+pub mod Choices
+pub mod Nesting
+pub mod Groups

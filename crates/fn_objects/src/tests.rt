@@ -1,0 +1,4 @@
+mod cells;
+mod contents;
+mod keys;
+mod nesting;

@@ -1,0 +1,4 @@
+mod cells;
+mod counts;
+mod parts;
+mod sameness;
