@@ -1,0 +1,3 @@
+mod items;
+mod parts;
+mod rows;

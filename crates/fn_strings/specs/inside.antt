@@ -1,0 +1,3 @@
+pub mod Atomics
+pub mod Around
+pub mod Positions
