@@ -1,0 +1,7 @@
+mod Appearances
+mod Merges
+pub mod SameKeys
+pub mod RowJoins
+pub mod GroupTables
+mod CodeRows
+mod CodeGroups

@@ -1,0 +1,4 @@
+pub mod Groups
+pub mod Grouping
+pub mod Laws
+pub mod inside

@@ -1,0 +1,13 @@
+//! Groups of the tuples of a stream by their keys.
+#![tactic(auto)]
+
+mod finish;
+mod group;
+mod group_key;
+pub mod laws;
+mod table;
+
+pub use table::GroupTable;
+
+#[cfg(test)]
+mod tests;

@@ -1,0 +1,6 @@
+-- How the code goes about it.
+pub mod Follow
+pub mod Columns
+pub mod Notes
+pub mod Kept
+pub mod Ranks

@@ -1,0 +1,3 @@
+pub mod Tuples
+pub mod Keys
+pub mod Cuts
