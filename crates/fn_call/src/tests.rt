@@ -1,0 +1,3 @@
+mod dated;
+mod rows;
+mod values;

@@ -1,0 +1,4 @@
+pub mod Dates
+pub mod Texts
+pub mod Table
+pub mod Laws
