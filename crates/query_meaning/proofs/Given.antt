@@ -1,12 +1,13 @@
 -- What `json-lines` gives is what is computed. For other crates too.
-use Rattle.std.proofs.Common.{◌≡◌, ℕ, List, [], ◌∷◌, Option, Some, None, option_map, map, refl, sym, ◌∙◌, ap, subst}
+use Rattle.std.proofs.Common.{◌≡◌, ℕ, List, [], ◌∷◌, Option, Some, None, option_map, map, refl, sym, ◌∙◌, ap}
 use Rattle.item_reader.specs.Reading.{Read}
 use Rattle.item_reader.specs.inside.Items.{items_of}
 use Rattle.item_reader.proofs.Inputs.{inputs_exact}
 use Rattle.outside.specs.World.{World, file_of}
 use Rattle.query_meaning.specs.Outcome.{Outcome, at_place}
 use Rattle.query_meaning.specs.Inputs.{read_then, FilesReadAs, AllReadAs, and_all, all_there, InputsGive}
-use Rattle.query_meaning.specs.inside.Computed.{read_all, given, read_of, inputs_of}
+use Rattle.query_meaning.specs.Library.{read_all, given}
+use Rattle.query_meaning.specs.inside.Computed.{read_of, inputs_of}
 use Rattle.query_meaning.specs.Laws.{InputsGiveOne}
 
 files_read : (files : List (List ℕ)) → FilesReadAs files (read_all (map items_of files))

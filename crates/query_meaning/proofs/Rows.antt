@@ -1,5 +1,5 @@
 -- What `json-lines` gives of some small files, by computation.
-use Rattle.std.proofs.Common.{◌≡◌, ℕ, List, [], ◌∷◌, codes, Ok, Err, ℤ, pos, refl}
+use Rattle.std.proofs.Common.{◌≡◌, [], ◌∷◌, codes, Ok, Err, pos, refl}
 use Rattle.item_tree.specs.Datum.{integer}
 use Rattle.item_tree.specs.Faults.{fault_at}
 use Rattle.item_tree.specs.declared.code.Code.TheVariants.{FODC0002, JNDY0021}

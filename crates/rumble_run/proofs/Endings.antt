@@ -13,7 +13,8 @@ use Rattle.rumble_run.specs.inside.Computed.{of_tree, of_run}
 use Rattle.rumble_run.proofs.Computing.{tree_answered}
 use Rattle.query_meaning.specs.Outcome.{Outcome, at_place}
 use Rattle.query_meaning.specs.Inputs.{all_there}
-use Rattle.query_meaning.specs.inside.Computed.{given, read_of}
+use Rattle.query_meaning.specs.Library.{given}
+use Rattle.query_meaning.specs.inside.Computed.{read_of}
 use Rattle.rumble_run.specs.Built.{call_of}
 use Rattle.rumble_run.specs.inside.Held.{read_held, given_by}
 use Rattle.rumble_run.specs.declared.inputs.Held.{Held}

@@ -7,7 +7,7 @@ use Rattle.item_tree.specs.declared.code.Code.TheVariants.{FODC0002}
 use Rattle.item_reader.specs.Reading.{Read}
 use Rattle.std.specs.List.{list_any}
 use Rattle.query_meaning.specs.Inputs.{read_then, and_all, all_there}
-use Rattle.query_meaning.specs.inside.Computed.{read_all, given}
+use Rattle.query_meaning.specs.Library.{read_all, given}
 use Rattle.item_tree.specs.Faults.{fault_at}
 use Rattle.item_tree.specs.declared.fault.Fault.{Fault}
 use Rattle.query_meaning.specs.Outcome.{at_place}

@@ -9,7 +9,7 @@ use Rattle.item_tree.specs.declared.code.Code.TheVariants.{FODC0002}
 use Rattle.item_reader.specs.Reading.{Read}
 use Rattle.outside.specs.World.{World}
 use Rattle.query_meaning.specs.Inputs.{all_there}
-use Rattle.query_meaning.specs.inside.Computed.{given}
+use Rattle.query_meaning.specs.Library.{given}
 use Rattle.rumble_run.specs.Opens.{is_among}
 use Rattle.rumble_run.specs.inside.Reads.{files_of_name}
 use Rattle.rumble_run.specs.declared.inputs.Held.{Held}

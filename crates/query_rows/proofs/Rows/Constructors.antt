@@ -1,0 +1,86 @@
+-- Written by tools/query_rows.py from rows.txt. Change that, and run it again.
+-- Constructors.
+use Rattle.std.proofs.Common.{[], ◌∷◌, codes, refl}
+use Rattle.std.specs.Fmt.{digits}
+use Rattle.std.specs.Str.{chars}
+use lib.Utf8.{encode}
+use Rattle.item_tree.specs.Datum.{null}
+use Rattle.query_grammar.specs.declared.word.Kind.TheVariants as k
+use Rattle.query_rows.proofs.Computing.{name, mark, whole, Gives}
+use Rattle.num_fixed.specs.Fronts as num_fixed_fronts
+use Rattle.num_fixed.specs.Values as num_fixed_values
+use Rattle.num_fixed.specs.inside.Spells as num_fixed_inside_spells
+use Rattle.item_tree.specs.Dates as item_tree_dates
+use Rattle.item_tree.specs.JsonString as item_tree_jsonstring
+use Rattle.json_text.specs.inside.Build as json_text_inside_build
+use Rattle.json_text.specs.inside.Machine as json_text_inside_machine
+use Rattle.json_text.specs.inside.Scan as json_text_inside_scan
+use Rattle.fn_table.specs.Dates as fn_table_dates
+use Rattle.grammar_parts.specs.Levels as grammar_parts_levels
+use Rattle.grammar_parts.specs.Parts as grammar_parts_parts
+use Rattle.grammar_parts.specs.Readers as grammar_parts_readers
+use Rattle.query_meaning.specs.Calls as query_meaning_calls
+use Rattle.query_meaning.specs.Choices as query_meaning_choices
+use Rattle.query_meaning.specs.Clauses as query_meaning_clauses
+use Rattle.query_meaning.specs.Constructors as query_meaning_constructors
+use Rattle.query_meaning.specs.Flwors as query_meaning_flwors
+use Rattle.query_meaning.specs.Groups as query_meaning_groups
+use Rattle.query_meaning.specs.Meaning as query_meaning_meaning
+use Rattle.query_meaning.specs.Operators as query_meaning_operators
+use Rattle.query_meaning.specs.Orders as query_meaning_orders
+use Rattle.query_meaning.specs.Paths as query_meaning_paths
+use Rattle.query_meaning.specs.Queries as query_meaning_queries
+use Rattle.query_grammar.specs.Classes as query_grammar_classes
+use Rattle.query_grammar.specs.Grammar as query_grammar_grammar
+
+pub record ConstructorsRows : Type 0 where
+  -- [], [1, (2, 3)], [[]]
+  pub arrays : Gives ((mark k.OpenBracket 0) ∷ (mark k.CloseBracket 1) ∷ (mark k.Comma 2) ∷ (mark k.OpenBracket 4) ∷ (whole k.Int 5 1) ∷ (mark k.Comma 6) ∷ (mark k.OpenParen 8) ∷ (whole k.Int 9 2) ∷ (mark k.Comma 10) ∷ (whole k.Int 12 3) ∷ (mark k.CloseParen 13) ∷ (mark k.CloseBracket 14) ∷ (mark k.Comma 15) ∷ (mark k.OpenBracket 17) ∷ (mark k.OpenBracket 18) ∷ (mark k.CloseBracket 19) ∷ (mark k.CloseBracket 20) ∷ [])
+      ([])
+      (codes "[]/[1,2,3]/[[]]/")
+  -- {}, {"a":1, b:(), c:(1, 2), "d":[]}, {1:2, null:3, "x":"y"}
+  pub objects : Gives ((mark k.OpenBrace 0) ∷ (mark k.CloseBrace 1) ∷ (mark k.Comma 2) ∷ (mark k.OpenBrace 4) ∷ (name k.Text 5 (codes "a")) ∷ (mark k.Colon 8) ∷ (whole k.Int 9 1) ∷ (mark k.Comma 10) ∷ (name k.Name 12 (codes "b")) ∷ (mark k.Colon 13) ∷ (mark k.OpenParen 14) ∷ (mark k.CloseParen 15) ∷ (mark k.Comma 16) ∷ (name k.Name 18 (codes "c")) ∷ (mark k.Colon 19) ∷ (mark k.OpenParen 20) ∷ (whole k.Int 21 1) ∷ (mark k.Comma 22) ∷ (whole k.Int 24 2) ∷ (mark k.CloseParen 25) ∷ (mark k.Comma 26) ∷ (name k.Text 28 (codes "d")) ∷ (mark k.Colon 31) ∷ (mark k.OpenBracket 32) ∷ (mark k.CloseBracket 33) ∷ (mark k.CloseBrace 34) ∷ (mark k.Comma 35) ∷ (mark k.OpenBrace 37) ∷ (whole k.Int 38 1) ∷ (mark k.Colon 39) ∷ (whole k.Int 40 2) ∷ (mark k.Comma 41) ∷ (name k.Null 43 (codes "null")) ∷ (mark k.Colon 47) ∷ (whole k.Int 48 3) ∷ (mark k.Comma 49) ∷ (name k.Text 51 (codes "x")) ∷ (mark k.Colon 54) ∷ (name k.Text 55 (codes "y")) ∷ (mark k.CloseBrace 58) ∷ [])
+      ([])
+      (codes "{}/{\"a\":1,\"b\":null,\"c\":[1,2],\"d\":[]}/{\"1\":2,\"null\":3,\"x\":\"y\"}/")
+  -- {"a":1, "b":2, "a":3}
+  pub repeated_key : Gives ((mark k.OpenBrace 0) ∷ (name k.Text 1 (codes "a")) ∷ (mark k.Colon 4) ∷ (whole k.Int 5 1) ∷ (mark k.Comma 6) ∷ (name k.Text 8 (codes "b")) ∷ (mark k.Colon 11) ∷ (whole k.Int 12 2) ∷ (mark k.Comma 13) ∷ (name k.Text 15 (codes "a")) ∷ (mark k.Colon 18) ∷ (whole k.Int 19 3) ∷ (mark k.CloseBrace 20) ∷ [])
+      ([])
+      (codes "JNDY0003 at 19")
+  -- {"a":1, "a":2, (1, 2):3}
+  pub key_of_several_items : Gives ((mark k.OpenBrace 0) ∷ (name k.Text 1 (codes "a")) ∷ (mark k.Colon 4) ∷ (whole k.Int 5 1) ∷ (mark k.Comma 6) ∷ (name k.Text 8 (codes "a")) ∷ (mark k.Colon 11) ∷ (whole k.Int 12 2) ∷ (mark k.Comma 13) ∷ (mark k.OpenParen 15) ∷ (whole k.Int 16 1) ∷ (mark k.Comma 17) ∷ (whole k.Int 19 2) ∷ (mark k.CloseParen 20) ∷ (mark k.Colon 21) ∷ (whole k.Int 22 3) ∷ (mark k.CloseBrace 23) ∷ [])
+      ([])
+      (codes "XPTY0004 at 22")
+  -- {[]:1}
+  pub key_is_an_array : Gives ((mark k.OpenBrace 0) ∷ (mark k.OpenBracket 1) ∷ (mark k.CloseBracket 2) ∷ (mark k.Colon 3) ∷ (whole k.Int 4 1) ∷ (mark k.CloseBrace 5) ∷ [])
+      ([])
+      (codes "XPTY0004 at 4")
+  -- {[]:1, "a":1 div 0}
+  pub values_before_keys_are_checked : Gives ((mark k.OpenBrace 0) ∷ (mark k.OpenBracket 1) ∷ (mark k.CloseBracket 2) ∷ (mark k.Colon 3) ∷ (whole k.Int 4 1) ∷ (mark k.Comma 5) ∷ (name k.Text 7 (codes "a")) ∷ (mark k.Colon 10) ∷ (whole k.Int 11 1) ∷ (name k.Div 13 (codes "div")) ∷ (whole k.Int 17 0) ∷ (mark k.CloseBrace 18) ∷ [])
+      ([])
+      (codes "FOAR0001 at 14")
+  -- {| {"a":1}, {"b":2} |}, {| |}, {| () |}
+  pub merged : Gives ((mark k.OpenMerge 0) ∷ (mark k.OpenBrace 3) ∷ (name k.Text 4 (codes "a")) ∷ (mark k.Colon 7) ∷ (whole k.Int 8 1) ∷ (mark k.CloseBrace 9) ∷ (mark k.Comma 10) ∷ (mark k.OpenBrace 12) ∷ (name k.Text 13 (codes "b")) ∷ (mark k.Colon 16) ∷ (whole k.Int 17 2) ∷ (mark k.CloseBrace 18) ∷ (mark k.CloseMerge 20) ∷ (mark k.Comma 22) ∷ (mark k.OpenMerge 24) ∷ (mark k.CloseMerge 27) ∷ (mark k.Comma 29) ∷ (mark k.OpenMerge 31) ∷ (mark k.OpenParen 34) ∷ (mark k.CloseParen 35) ∷ (mark k.CloseMerge 37) ∷ [])
+      ([])
+      (codes "{\"a\":1,\"b\":2}/{}/{}/")
+  -- 1, {| {"a":1}, {"a":2}, 3 |}
+  pub merged_other_item : Gives ((whole k.Int 0 1) ∷ (mark k.Comma 1) ∷ (mark k.OpenMerge 3) ∷ (mark k.OpenBrace 6) ∷ (name k.Text 7 (codes "a")) ∷ (mark k.Colon 10) ∷ (whole k.Int 11 1) ∷ (mark k.CloseBrace 12) ∷ (mark k.Comma 13) ∷ (mark k.OpenBrace 15) ∷ (name k.Text 16 (codes "a")) ∷ (mark k.Colon 19) ∷ (whole k.Int 20 2) ∷ (mark k.CloseBrace 21) ∷ (mark k.Comma 22) ∷ (whole k.Int 24 3) ∷ (mark k.CloseMerge 26) ∷ [])
+      ([])
+      (codes "XPTY0004 at 4")
+  -- 1, {| {"a":1}, {"a":2} |}
+  pub merged_twice : Gives ((whole k.Int 0 1) ∷ (mark k.Comma 1) ∷ (mark k.OpenMerge 3) ∷ (mark k.OpenBrace 6) ∷ (name k.Text 7 (codes "a")) ∷ (mark k.Colon 10) ∷ (whole k.Int 11 1) ∷ (mark k.CloseBrace 12) ∷ (mark k.Comma 13) ∷ (mark k.OpenBrace 15) ∷ (name k.Text 16 (codes "a")) ∷ (mark k.Colon 19) ∷ (whole k.Int 20 2) ∷ (mark k.CloseBrace 21) ∷ (mark k.CloseMerge 23) ∷ [])
+      ([])
+      (codes "JNDY0003 at 4")
+
+pub constructors_rows : ConstructorsRows
+unfolding digits encode chars num_fixed_fronts.fraction_len num_fixed_fronts.exponent_len num_fixed_fronts.whole_end num_fixed_fronts.fraction_end num_fixed_fronts.number_end num_fixed_fronts.numeral_front num_fixed_values.near_natural num_fixed_values.near num_fixed_values.units_said num_fixed_inside_spells.spelled item_tree_dates.days_of_years item_tree_dates.days_of_months item_tree_dates.day_count item_tree_dates.day_number item_tree_jsonstring.code_unit json_text_inside_build.reading json_text_inside_machine.token_from json_text_inside_machine.token_at json_text_inside_machine.run_for json_text_inside_machine.run json_text_inside_scan.numeral_at json_text_inside_scan.pieces_at fn_table_dates.days_after fn_table_dates.days_before grammar_parts_levels.inside grammar_parts_parts.OneWhole grammar_parts_parts.OneBegun grammar_parts_parts.NothingWhole grammar_parts_parts.NothingBegun grammar_parts_parts.OnlyWhole grammar_parts_parts.OnlyBegun grammar_parts_parts.MappedWhole grammar_parts_parts.MappedBegun grammar_parts_parts.SeqWhole grammar_parts_parts.SeqBegun grammar_parts_parts.LongWhole grammar_parts_parts.LongBegun grammar_parts_parts.AltWhole grammar_parts_parts.AltBegun grammar_parts_parts.UnlessWhole grammar_parts_parts.UnlessBegun grammar_parts_parts.AheadWhole grammar_parts_parts.AheadBegun grammar_parts_parts.ManyWhole grammar_parts_parts.ManyBegun grammar_parts_parts.ManyLongWhole grammar_parts_parts.ManyLongBegun grammar_parts_parts.NoneWhole grammar_parts_readers.read_times grammar_parts_readers.read_many query_meaning_calls.own_value query_meaning_calls.call_value query_meaning_choices.if_value query_meaning_choices.switch_value query_meaning_choices.typeswitch_value query_meaning_choices.try_value query_meaning_choices.quantified_value query_meaning_clauses.bound_tuple query_meaning_clauses.for_tuples query_meaning_clauses.let_tuples query_meaning_clauses.where_tuples query_meaning_clauses.count_tuples query_meaning_clauses.each_tuple query_meaning_constructors.array_value query_meaning_constructors.entry_of query_meaning_constructors.object_value query_meaning_constructors.merge_value query_meaning_flwors.return_value query_meaning_flwors.flwor_value query_meaning_groups.group_key_value query_meaning_groups.keyed_tuple query_meaning_groups.group_tuples query_meaning_meaning.meaning query_meaning_operators.comma_value query_meaning_operators.mapped_by query_meaning_operators.map_value query_meaning_operators.text_behind query_meaning_operators.concat_value query_meaning_operators.or_value query_meaning_operators.and_value query_meaning_operators.not_value query_meaning_operators.compare_value query_meaning_operators.range_value query_meaning_operators.with_term query_meaning_operators.sum_value query_meaning_operators.with_factor query_meaning_operators.product_value query_meaning_operators.sign_value query_meaning_operators.instance_value query_meaning_operators.treat_value query_meaning_operators.cast_to_value query_meaning_operators.castable_value query_meaning_orders.compared_keys query_meaning_orders.order_tuples query_meaning_paths.kept query_meaning_paths.filtered query_meaning_paths.member_value query_meaning_paths.key_value query_meaning_paths.field_value query_meaning_paths.postfix_value query_meaning_queries.query_value query_grammar_classes.is query_grammar_grammar.variable query_grammar_grammar.parens query_grammar_grammar.times query_grammar_grammar.item_type query_grammar_grammar.empty_parens query_grammar_grammar.empty_rest query_grammar_grammar.empty_type query_grammar_grammar.seq_type query_grammar_grammar.single_type query_grammar_grammar.as_type query_grammar_grammar.literal query_grammar_grammar.in_parens query_grammar_grammar.in_braces query_grammar_grammar.content query_grammar_grammar.paren query_grammar_grammar.merge query_grammar_grammar.array query_grammar_grammar.name_key query_grammar_grammar.computed_key query_grammar_grammar.pair_key query_grammar_grammar.pair query_grammar_grammar.pair_list query_grammar_grammar.pairs query_grammar_grammar.object query_grammar_grammar.argument query_grammar_grammar.argument_list query_grammar_grammar.some_arguments query_grammar_grammar.arguments query_grammar_grammar.arity query_grammar_grammar.call query_grammar_grammar.inline_function query_grammar_grammar.primary query_grammar_grammar.members query_grammar_grammar.member query_grammar_grammar.filter query_grammar_grammar.bracket_step query_grammar_grammar.plain_key query_grammar_grammar.computed_lookup query_grammar_grammar.field_step query_grammar_grammar.call_step query_grammar_grammar.step query_grammar_grammar.steps query_grammar_grammar.postfix query_grammar_grammar.mapped_operand query_grammar_grammar.mapped_operands query_grammar_grammar.map_level query_grammar_grammar.sign_mark query_grammar_grammar.sign_marks query_grammar_grammar.sign query_grammar_grammar.cast_type query_grammar_grammar.cast query_grammar_grammar.castable_type query_grammar_grammar.castable query_grammar_grammar.treat_type query_grammar_grammar.treat query_grammar_grammar.instance_type query_grammar_grammar.instance query_grammar_grammar.factor query_grammar_grammar.factors query_grammar_grammar.product query_grammar_grammar.term query_grammar_grammar.terms query_grammar_grammar.sum query_grammar_grammar.range_end query_grammar_grammar.range query_grammar_grammar.concat_operand query_grammar_grammar.concat_operands query_grammar_grammar.concat query_grammar_grammar.compared query_grammar_grammar.comparison query_grammar_grammar.compare query_grammar_grammar.not_level query_grammar_grammar.and_operand query_grammar_grammar.and_operands query_grammar_grammar.and_level query_grammar_grammar.or_operand query_grammar_grammar.or_operands query_grammar_grammar.or_level query_grammar_grammar.allowing query_grammar_grammar.at_variable query_grammar_grammar.for_var query_grammar_grammar.window query_grammar_grammar.for_vars query_grammar_grammar.for_clause query_grammar_grammar.let_var query_grammar_grammar.let_vars query_grammar_grammar.let_clause query_grammar_grammar.first_clause query_grammar_grammar.keep_clause query_grammar_grammar.group_value query_grammar_grammar.group_var query_grammar_grammar.group_vars query_grammar_grammar.group_clause query_grammar_grammar.empty_order query_grammar_grammar.direction query_grammar_grammar.order_key query_grammar_grammar.order_list query_grammar_grammar.order_keys query_grammar_grammar.order_clause query_grammar_grammar.count_clause query_grammar_grammar.one_clause query_grammar_grammar.clause query_grammar_grammar.returned query_grammar_grammar.clauses query_grammar_grammar.flwor query_grammar_grammar.bind query_grammar_grammar.binds query_grammar_grammar.quant query_grammar_grammar.case_test query_grammar_grammar.case_tests query_grammar_grammar.case query_grammar_grammar.cases query_grammar_grammar.switch query_grammar_grammar.seq_types query_grammar_grammar.case_variable query_grammar_grammar.type_case query_grammar_grammar.default_variable query_grammar_grammar.type_default query_grammar_grammar.type_cases query_grammar_grammar.typeswitch query_grammar_grammar.if query_grammar_grammar.catch_names query_grammar_grammar.catch_codes query_grammar_grammar.catch query_grammar_grammar.catches query_grammar_grammar.try query_grammar_grammar.single query_grammar_grammar.comma_operand query_grammar_grammar.comma_operands query_grammar_grammar.expr query_grammar_grammar.param query_grammar_grammar.variable_declaration query_grammar_grammar.param_list query_grammar_grammar.some_params query_grammar_grammar.params query_grammar_grammar.function_body query_grammar_grammar.function_declaration query_grammar_grammar.declaration query_grammar_grammar.declarations query_grammar_grammar.module_part
+constructors_rows = record {
+  arrays = refl;
+  objects = refl;
+  repeated_key = refl;
+  key_of_several_items = refl;
+  key_is_an_array = refl;
+  values_before_keys_are_checked = refl;
+  merged = refl;
+  merged_other_item = refl;
+  merged_twice = refl;
+}

@@ -1,0 +1,91 @@
+-- Written by tools/query_rows.py from rows.txt. Change that, and run it again.
+-- Types.
+use Rattle.std.proofs.Common.{true, false, [], ◌∷◌, codes, refl}
+use Rattle.std.specs.Fmt.{digits}
+use Rattle.std.specs.Str.{chars}
+use lib.Utf8.{encode}
+use Rattle.item_tree.specs.Datum.{null, boolean, integer, decimal}
+use Rattle.query_grammar.specs.declared.word.Kind.TheVariants as k
+use Rattle.query_rows.proofs.Computing.{name, mark, whole, units, Gives}
+use Rattle.num_fixed.specs.Fronts as num_fixed_fronts
+use Rattle.num_fixed.specs.Values as num_fixed_values
+use Rattle.num_fixed.specs.inside.Spells as num_fixed_inside_spells
+use Rattle.item_tree.specs.Dates as item_tree_dates
+use Rattle.item_tree.specs.JsonString as item_tree_jsonstring
+use Rattle.json_text.specs.inside.Build as json_text_inside_build
+use Rattle.json_text.specs.inside.Machine as json_text_inside_machine
+use Rattle.json_text.specs.inside.Scan as json_text_inside_scan
+use Rattle.fn_table.specs.Dates as fn_table_dates
+use Rattle.grammar_parts.specs.Levels as grammar_parts_levels
+use Rattle.grammar_parts.specs.Parts as grammar_parts_parts
+use Rattle.grammar_parts.specs.Readers as grammar_parts_readers
+use Rattle.query_meaning.specs.Calls as query_meaning_calls
+use Rattle.query_meaning.specs.Choices as query_meaning_choices
+use Rattle.query_meaning.specs.Clauses as query_meaning_clauses
+use Rattle.query_meaning.specs.Constructors as query_meaning_constructors
+use Rattle.query_meaning.specs.Flwors as query_meaning_flwors
+use Rattle.query_meaning.specs.Groups as query_meaning_groups
+use Rattle.query_meaning.specs.Meaning as query_meaning_meaning
+use Rattle.query_meaning.specs.Operators as query_meaning_operators
+use Rattle.query_meaning.specs.Orders as query_meaning_orders
+use Rattle.query_meaning.specs.Paths as query_meaning_paths
+use Rattle.query_meaning.specs.Queries as query_meaning_queries
+use Rattle.query_grammar.specs.Classes as query_grammar_classes
+use Rattle.query_grammar.specs.Grammar as query_grammar_grammar
+
+pub record TypesRows : Type 0 where
+  -- 1 instance of integer, 1 instance of decimal, 1.0 instance of integer, (1, 2) instance of integer+
+  pub instances : Gives ((whole k.Int 0 1) ∷ (name k.Instance 2 (codes "instance")) ∷ (name k.Of 11 (codes "of")) ∷ (name k.Name 14 (codes "integer")) ∷ (mark k.Comma 21) ∷ (whole k.Int 23 1) ∷ (name k.Instance 25 (codes "instance")) ∷ (name k.Of 34 (codes "of")) ∷ (name k.Name 37 (codes "decimal")) ∷ (mark k.Comma 44) ∷ (units k.Dec 46 1000000) ∷ (name k.Instance 50 (codes "instance")) ∷ (name k.Of 59 (codes "of")) ∷ (name k.Name 62 (codes "integer")) ∷ (mark k.Comma 69) ∷ (mark k.OpenParen 71) ∷ (whole k.Int 72 1) ∷ (mark k.Comma 73) ∷ (whole k.Int 75 2) ∷ (mark k.CloseParen 76) ∷ (name k.Instance 78 (codes "instance")) ∷ (name k.Of 87 (codes "of")) ∷ (name k.Name 90 (codes "integer")) ∷ (mark k.Plus 97) ∷ [])
+      ([])
+      (codes "true/true/false/true/")
+  -- () instance of empty-sequence(), () instance of item?, () instance of item, [1] instance of json-item
+  pub instances_of_none : Gives ((mark k.OpenParen 0) ∷ (mark k.CloseParen 1) ∷ (name k.Instance 3 (codes "instance")) ∷ (name k.Of 12 (codes "of")) ∷ (name k.EmptySequence 15 (codes "empty-sequence")) ∷ (mark k.OpenParen 29) ∷ (mark k.CloseParen 30) ∷ (mark k.Comma 31) ∷ (mark k.OpenParen 33) ∷ (mark k.CloseParen 34) ∷ (name k.Instance 36 (codes "instance")) ∷ (name k.Of 45 (codes "of")) ∷ (name k.Name 48 (codes "item")) ∷ (mark k.Question 52) ∷ (mark k.Comma 53) ∷ (mark k.OpenParen 55) ∷ (mark k.CloseParen 56) ∷ (name k.Instance 58 (codes "instance")) ∷ (name k.Of 67 (codes "of")) ∷ (name k.Name 70 (codes "item")) ∷ (mark k.Comma 74) ∷ (mark k.OpenBracket 76) ∷ (whole k.Int 77 1) ∷ (mark k.CloseBracket 78) ∷ (name k.Instance 80 (codes "instance")) ∷ (name k.Of 89 (codes "of")) ∷ (name k.Name 92 (codes "json-item")) ∷ [])
+      ([])
+      (codes "true/true/false/true/")
+  -- (1, 2) treat as integer*
+  pub treated : Gives ((mark k.OpenParen 0) ∷ (whole k.Int 1 1) ∷ (mark k.Comma 2) ∷ (whole k.Int 4 2) ∷ (mark k.CloseParen 5) ∷ (name k.Treat 7 (codes "treat")) ∷ (name k.As 13 (codes "as")) ∷ (name k.Name 16 (codes "integer")) ∷ (mark k.Star 23) ∷ [])
+      ([])
+      (codes "1/2/")
+  -- (1, "a") treat as integer*
+  pub treated_wrongly : Gives ((mark k.OpenParen 0) ∷ (whole k.Int 1 1) ∷ (mark k.Comma 2) ∷ (name k.Text 4 (codes "a")) ∷ (mark k.CloseParen 7) ∷ (name k.Treat 9 (codes "treat")) ∷ (name k.As 15 (codes "as")) ∷ (name k.Name 18 (codes "integer")) ∷ (mark k.Star 25) ∷ [])
+      ([])
+      (codes "XPDY0050 at 10")
+  -- " 12 " cast as integer, 1.9 cast as integer, true cast as decimal, 1.50 cast as string
+  pub casts : Gives ((name k.Text 0 (codes " 12 ")) ∷ (name k.Cast 7 (codes "cast")) ∷ (name k.As 12 (codes "as")) ∷ (name k.Name 15 (codes "integer")) ∷ (mark k.Comma 22) ∷ (units k.Dec 24 1900000) ∷ (name k.Cast 28 (codes "cast")) ∷ (name k.As 33 (codes "as")) ∷ (name k.Name 36 (codes "integer")) ∷ (mark k.Comma 43) ∷ (name k.True 45 (codes "true")) ∷ (name k.Cast 50 (codes "cast")) ∷ (name k.As 55 (codes "as")) ∷ (name k.Name 58 (codes "decimal")) ∷ (mark k.Comma 65) ∷ (units k.Dec 67 1500000) ∷ (name k.Cast 72 (codes "cast")) ∷ (name k.As 77 (codes "as")) ∷ (name k.Name 80 (codes "string")) ∷ [])
+      ([])
+      (codes "12/1/1/\"1.5\"/")
+  -- "1" cast as boolean, 0 cast as boolean, "null" cast as null, () cast as integer?
+  pub casts_to_boolean_and_null : Gives ((name k.Text 0 (codes "1")) ∷ (name k.Cast 4 (codes "cast")) ∷ (name k.As 9 (codes "as")) ∷ (name k.Name 12 (codes "boolean")) ∷ (mark k.Comma 19) ∷ (whole k.Int 21 0) ∷ (name k.Cast 23 (codes "cast")) ∷ (name k.As 28 (codes "as")) ∷ (name k.Name 31 (codes "boolean")) ∷ (mark k.Comma 38) ∷ (name k.Text 40 (codes "null")) ∷ (name k.Cast 47 (codes "cast")) ∷ (name k.As 52 (codes "as")) ∷ (name k.Null 55 (codes "null")) ∷ (mark k.Comma 59) ∷ (mark k.OpenParen 61) ∷ (mark k.CloseParen 62) ∷ (name k.Cast 64 (codes "cast")) ∷ (name k.As 69 (codes "as")) ∷ (name k.Name 72 (codes "integer")) ∷ (mark k.Question 79) ∷ [])
+      ([])
+      (codes "true/false/null/")
+  -- "1.5" castable as integer, "1.5" castable as decimal, () castable as integer, (1, 2) castable as string
+  pub castable : Gives ((name k.Text 0 (codes "1.5")) ∷ (name k.Castable 6 (codes "castable")) ∷ (name k.As 15 (codes "as")) ∷ (name k.Name 18 (codes "integer")) ∷ (mark k.Comma 25) ∷ (name k.Text 27 (codes "1.5")) ∷ (name k.Castable 33 (codes "castable")) ∷ (name k.As 42 (codes "as")) ∷ (name k.Name 45 (codes "decimal")) ∷ (mark k.Comma 52) ∷ (mark k.OpenParen 54) ∷ (mark k.CloseParen 55) ∷ (name k.Castable 57 (codes "castable")) ∷ (name k.As 66 (codes "as")) ∷ (name k.Name 69 (codes "integer")) ∷ (mark k.Comma 76) ∷ (mark k.OpenParen 78) ∷ (whole k.Int 79 1) ∷ (mark k.Comma 80) ∷ (whole k.Int 82 2) ∷ (mark k.CloseParen 83) ∷ (name k.Castable 85 (codes "castable")) ∷ (name k.As 94 (codes "as")) ∷ (name k.Name 97 (codes "string")) ∷ [])
+      ([])
+      (codes "false/true/false/false/")
+  -- "1.5" cast as integer
+  pub cast_of_a_text : Gives ((name k.Text 0 (codes "1.5")) ∷ (name k.Cast 6 (codes "cast")) ∷ (name k.As 11 (codes "as")) ∷ (name k.Name 14 (codes "integer")) ∷ [])
+      ([])
+      (codes "FORG0001 at 7")
+  -- () cast as string
+  pub cast_of_nothing : Gives ((mark k.OpenParen 0) ∷ (mark k.CloseParen 1) ∷ (name k.Cast 3 (codes "cast")) ∷ (name k.As 8 (codes "as")) ∷ (name k.Name 11 (codes "string")) ∷ [])
+      ([])
+      (codes "XPTY0004 at 4")
+  -- (1 div 0) castable as integer
+  pub operand_of_castable : Gives ((mark k.OpenParen 0) ∷ (whole k.Int 1 1) ∷ (name k.Div 3 (codes "div")) ∷ (whole k.Int 7 0) ∷ (mark k.CloseParen 8) ∷ (name k.Castable 10 (codes "castable")) ∷ (name k.As 19 (codes "as")) ∷ (name k.Name 22 (codes "integer")) ∷ [])
+      ([])
+      (codes "FOAR0001 at 4")
+
+pub types_rows : TypesRows
+unfolding digits encode chars num_fixed_fronts.fraction_len num_fixed_fronts.exponent_len num_fixed_fronts.whole_end num_fixed_fronts.fraction_end num_fixed_fronts.number_end num_fixed_fronts.numeral_front num_fixed_values.near_natural num_fixed_values.near num_fixed_values.units_said num_fixed_inside_spells.spelled item_tree_dates.days_of_years item_tree_dates.days_of_months item_tree_dates.day_count item_tree_dates.day_number item_tree_jsonstring.code_unit json_text_inside_build.reading json_text_inside_machine.token_from json_text_inside_machine.token_at json_text_inside_machine.run_for json_text_inside_machine.run json_text_inside_scan.numeral_at json_text_inside_scan.pieces_at fn_table_dates.days_after fn_table_dates.days_before grammar_parts_levels.inside grammar_parts_parts.OneWhole grammar_parts_parts.OneBegun grammar_parts_parts.NothingWhole grammar_parts_parts.NothingBegun grammar_parts_parts.OnlyWhole grammar_parts_parts.OnlyBegun grammar_parts_parts.MappedWhole grammar_parts_parts.MappedBegun grammar_parts_parts.SeqWhole grammar_parts_parts.SeqBegun grammar_parts_parts.LongWhole grammar_parts_parts.LongBegun grammar_parts_parts.AltWhole grammar_parts_parts.AltBegun grammar_parts_parts.UnlessWhole grammar_parts_parts.UnlessBegun grammar_parts_parts.AheadWhole grammar_parts_parts.AheadBegun grammar_parts_parts.ManyWhole grammar_parts_parts.ManyBegun grammar_parts_parts.ManyLongWhole grammar_parts_parts.ManyLongBegun grammar_parts_parts.NoneWhole grammar_parts_readers.read_times grammar_parts_readers.read_many query_meaning_calls.own_value query_meaning_calls.call_value query_meaning_choices.if_value query_meaning_choices.switch_value query_meaning_choices.typeswitch_value query_meaning_choices.try_value query_meaning_choices.quantified_value query_meaning_clauses.bound_tuple query_meaning_clauses.for_tuples query_meaning_clauses.let_tuples query_meaning_clauses.where_tuples query_meaning_clauses.count_tuples query_meaning_clauses.each_tuple query_meaning_constructors.array_value query_meaning_constructors.entry_of query_meaning_constructors.object_value query_meaning_constructors.merge_value query_meaning_flwors.return_value query_meaning_flwors.flwor_value query_meaning_groups.group_key_value query_meaning_groups.keyed_tuple query_meaning_groups.group_tuples query_meaning_meaning.meaning query_meaning_operators.comma_value query_meaning_operators.mapped_by query_meaning_operators.map_value query_meaning_operators.text_behind query_meaning_operators.concat_value query_meaning_operators.or_value query_meaning_operators.and_value query_meaning_operators.not_value query_meaning_operators.compare_value query_meaning_operators.range_value query_meaning_operators.with_term query_meaning_operators.sum_value query_meaning_operators.with_factor query_meaning_operators.product_value query_meaning_operators.sign_value query_meaning_operators.instance_value query_meaning_operators.treat_value query_meaning_operators.cast_to_value query_meaning_operators.castable_value query_meaning_orders.compared_keys query_meaning_orders.order_tuples query_meaning_paths.kept query_meaning_paths.filtered query_meaning_paths.member_value query_meaning_paths.key_value query_meaning_paths.field_value query_meaning_paths.postfix_value query_meaning_queries.query_value query_grammar_classes.is query_grammar_grammar.variable query_grammar_grammar.parens query_grammar_grammar.times query_grammar_grammar.item_type query_grammar_grammar.empty_parens query_grammar_grammar.empty_rest query_grammar_grammar.empty_type query_grammar_grammar.seq_type query_grammar_grammar.single_type query_grammar_grammar.as_type query_grammar_grammar.literal query_grammar_grammar.in_parens query_grammar_grammar.in_braces query_grammar_grammar.content query_grammar_grammar.paren query_grammar_grammar.merge query_grammar_grammar.array query_grammar_grammar.name_key query_grammar_grammar.computed_key query_grammar_grammar.pair_key query_grammar_grammar.pair query_grammar_grammar.pair_list query_grammar_grammar.pairs query_grammar_grammar.object query_grammar_grammar.argument query_grammar_grammar.argument_list query_grammar_grammar.some_arguments query_grammar_grammar.arguments query_grammar_grammar.arity query_grammar_grammar.call query_grammar_grammar.inline_function query_grammar_grammar.primary query_grammar_grammar.members query_grammar_grammar.member query_grammar_grammar.filter query_grammar_grammar.bracket_step query_grammar_grammar.plain_key query_grammar_grammar.computed_lookup query_grammar_grammar.field_step query_grammar_grammar.call_step query_grammar_grammar.step query_grammar_grammar.steps query_grammar_grammar.postfix query_grammar_grammar.mapped_operand query_grammar_grammar.mapped_operands query_grammar_grammar.map_level query_grammar_grammar.sign_mark query_grammar_grammar.sign_marks query_grammar_grammar.sign query_grammar_grammar.cast_type query_grammar_grammar.cast query_grammar_grammar.castable_type query_grammar_grammar.castable query_grammar_grammar.treat_type query_grammar_grammar.treat query_grammar_grammar.instance_type query_grammar_grammar.instance query_grammar_grammar.factor query_grammar_grammar.factors query_grammar_grammar.product query_grammar_grammar.term query_grammar_grammar.terms query_grammar_grammar.sum query_grammar_grammar.range_end query_grammar_grammar.range query_grammar_grammar.concat_operand query_grammar_grammar.concat_operands query_grammar_grammar.concat query_grammar_grammar.compared query_grammar_grammar.comparison query_grammar_grammar.compare query_grammar_grammar.not_level query_grammar_grammar.and_operand query_grammar_grammar.and_operands query_grammar_grammar.and_level query_grammar_grammar.or_operand query_grammar_grammar.or_operands query_grammar_grammar.or_level query_grammar_grammar.allowing query_grammar_grammar.at_variable query_grammar_grammar.for_var query_grammar_grammar.window query_grammar_grammar.for_vars query_grammar_grammar.for_clause query_grammar_grammar.let_var query_grammar_grammar.let_vars query_grammar_grammar.let_clause query_grammar_grammar.first_clause query_grammar_grammar.keep_clause query_grammar_grammar.group_value query_grammar_grammar.group_var query_grammar_grammar.group_vars query_grammar_grammar.group_clause query_grammar_grammar.empty_order query_grammar_grammar.direction query_grammar_grammar.order_key query_grammar_grammar.order_list query_grammar_grammar.order_keys query_grammar_grammar.order_clause query_grammar_grammar.count_clause query_grammar_grammar.one_clause query_grammar_grammar.clause query_grammar_grammar.returned query_grammar_grammar.clauses query_grammar_grammar.flwor query_grammar_grammar.bind query_grammar_grammar.binds query_grammar_grammar.quant query_grammar_grammar.case_test query_grammar_grammar.case_tests query_grammar_grammar.case query_grammar_grammar.cases query_grammar_grammar.switch query_grammar_grammar.seq_types query_grammar_grammar.case_variable query_grammar_grammar.type_case query_grammar_grammar.default_variable query_grammar_grammar.type_default query_grammar_grammar.type_cases query_grammar_grammar.typeswitch query_grammar_grammar.if query_grammar_grammar.catch_names query_grammar_grammar.catch_codes query_grammar_grammar.catch query_grammar_grammar.catches query_grammar_grammar.try query_grammar_grammar.single query_grammar_grammar.comma_operand query_grammar_grammar.comma_operands query_grammar_grammar.expr query_grammar_grammar.param query_grammar_grammar.variable_declaration query_grammar_grammar.param_list query_grammar_grammar.some_params query_grammar_grammar.params query_grammar_grammar.function_body query_grammar_grammar.function_declaration query_grammar_grammar.declaration query_grammar_grammar.declarations query_grammar_grammar.module_part
+types_rows = record {
+  instances = refl;
+  instances_of_none = refl;
+  treated = refl;
+  treated_wrongly = refl;
+  casts = refl;
+  casts_to_boolean_and_null = refl;
+  castable = refl;
+  cast_of_a_text = refl;
+  cast_of_nothing = refl;
+  operand_of_castable = refl;
+}
