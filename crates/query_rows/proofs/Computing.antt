@@ -12,6 +12,8 @@ use Rattle.query_grammar.specs.declared.word.Kind.{Kind}
 use Rattle.query_grammar.specs.declared.word.Value.TheVariants as v
 use Rattle.query_grammar.specs.declared.word.Word.{Word}
 use Rattle.static_rules.specs.Compiling.{compiled_query, query_width}
+use Rattle.static_rules.specs.Refusals.{refusal}
+use Rattle.static_rules.specs.declared.rules.Refusal.{Refusal}
 use Rattle.query_meaning.specs.Library.{Library}
 use Rattle.query_meaning.specs.Outcome.{Outcome}
 use Rattle.query_meaning.specs.Queries.{query_value}
@@ -46,10 +48,15 @@ abbrev told : Outcome → List ℕ
 told (Ok items) = items_told items
 told (Err fault) = fault_told fault
 
+-- a query that a static rule refuses comes to nothing
+abbrev told_unless : Option Refusal → Module → Library → List ℕ
+told_unless (Some broken) m library = codes "refused"
+told_unless None m library = told (query_value (query_width m) (compiled_query m) library)
+
 abbrev told_of : {E : Type 0} → Library → Result (Module × List Word) E → List ℕ
 told_of library (Err refused) = codes "refused"
 told_of library (Ok (m, w ∷ rest)) = codes "refused"
-told_of library (Ok (m, [])) = told (query_value (query_width m) (compiled_query m) library)
+told_of library (Ok (m, [])) = told_unless (refusal m) m library
 
 abbrev pub Gives : List Word → Library → List ℕ → Type 0
 Gives words library expected = told_of library (query.read words) ≡ expected
