@@ -22,12 +22,9 @@ use Rattle.seq_types.specs.declared.types.ItemType.{ItemType}
 use Rattle.seq_types.specs.declared.types.ItemType.TheVariants as type
 use Rattle.value_rules.specs.Operands.{and_then, one_atomic}
 use Rattle.value_rules.specs.Results.{number_datum}
+use Rattle.value_rules.specs.Strings.{is_blank}
 
 -- ---- the texts of numbers
-
--- a space, a tab, a carriage return or a line feed
-abbrev pub is_blank : ℕ → Bool
-is_blank c = (c == 32) || (c == 9) || (c == 13) || (c == 10)
 
 abbrev pub without_last_blanks : List ℕ → List ℕ
 without_last_blanks l = take (length l - suffix_len is_blank l) l

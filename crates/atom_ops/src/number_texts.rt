@@ -3,7 +3,8 @@ ghost use Rattle.std.specs.Char.{is_ascii_digit};
 ghost use Rattle.std.specs.List.{list_all, prefix_len, suffix_len};
 ghost use Rattle.num_fixed.specs.Bounds.{NumberInBounds};
 ghost use Rattle.num_fixed.specs.Scan.{behind_sign, digits_len};
-ghost use Rattle.atom_ops.specs.Casts.{is_blank, trimmed, without_last_blanks, is_fraction, ends_number, is_plain_number, number_in};
+ghost use Rattle.atom_ops.specs.Casts.{trimmed, without_last_blanks, is_fraction, ends_number, is_plain_number, number_in};
+ghost use Rattle.value_rules.specs.Strings.{is_blank};
 
 use item_tree::Code;
 use num_fixed::{Number, read_number};

@@ -4,7 +4,6 @@ ghost use Rattle.item_tree.specs.Codes.{code_text};
 /// What went wrong, by the codes of XQuery, of JSONiq and of this engine.
 ///
 /// A code with `ST`, and `XPDY0002`, refuse a query before it runs; any other is raised by a run.
-/// `PJST0099` stands for a query that is not built yet.
 #[derive(Clone, Copy, Debug, PartialEq, Eq)]
 pub enum Code {
     /// The text is not of the grammar.
@@ -75,8 +74,6 @@ pub enum Code {
     PJST0008,
     /// A library's body is not `()`.
     PJST0009,
-    /// A query that is not built yet.
-    PJST0099,
     /// An evaluation is more than 1,000 deep.
     PJDY0001,
     /// An item is more than 128 deep.
@@ -127,7 +124,6 @@ impl Code {
             Code::PJST0007 => "PJST0007",
             Code::PJST0008 => "PJST0008",
             Code::PJST0009 => "PJST0009",
-            Code::PJST0099 => "PJST0099",
             Code::PJDY0001 => "PJDY0001",
             Code::PJDY0002 => "PJDY0002",
             Code::PJDY0003 => "PJDY0003",

@@ -17,7 +17,7 @@ use Rattle.tuple_rows.specs.Keys.{key_list}
 use Rattle.order_runs.specs.declared.column.Column.{Column}
 use Rattle.order_runs.specs.Clashes.{first_key, other_keys}
 use Rattle.order_runs.specs.Orders.{atoms_order, value_order, key_order, column_order, keys_order, below, placed, ordered, sorted}
-use Rattle.order_runs.specs.Runs.{Entry, entry_of, entries_of}
+use Rattle.order_runs.specs.Runs.{Entry, entry_of, entries_of, keyed_below}
 
 abbrev pub Agree : Type 0
 Agree = KeysAgree (key_eq.ghosts).eq (key_ord.ghosts).cmp
@@ -124,26 +124,23 @@ pub below_weak : Agree → (cs : List Column) → IsStrictWeakOrder (below cs)
 below_weak agree cs = ranks_by (keys_total (total_values (total_atoms agree)) cs) (λ p. p.0)
 
 -- the same of the code's entries
-abbrev pub entry_below : List Column → Entry → Entry → Bool
-entry_below cs a b = below cs (entry_of a) (entry_of b)
-
-pub entries_weak : Agree → (cs : List Column) → IsStrictWeakOrder (entry_below cs)
-entries_weak agree cs = ranks_by (keys_total (total_values (total_atoms agree)) cs) (λ e. key_list e.0)
+pub keyed_weak : {T : Type 0} → Agree → (cs : List Column) → IsStrictWeakOrder (keyed_below {T = T} cs)
+keyed_weak agree cs = ranks_by (keys_total (total_values (total_atoms agree)) cs) (λ e. key_list e.0)
 
 -- entries are ordered as what they stand for
 placed_case : (b : Bool) (cs : List Column) (e f : Entry) (fs : List Entry)
-    → entries_of (placed (entry_below cs) e fs) ≡ placed (below cs) (entry_of e) (entries_of fs)
-    → entries_of (if b then f ∷ placed (entry_below cs) e fs else (e ∷ f ∷ fs))
+    → entries_of (placed (keyed_below cs) e fs) ≡ placed (below cs) (entry_of e) (entries_of fs)
+    → entries_of (if b then f ∷ placed (keyed_below cs) e fs else (e ∷ f ∷ fs))
     ≡ (if b then entry_of f ∷ placed (below cs) (entry_of e) (entries_of fs) else (entry_of e ∷ entry_of f ∷ entries_of fs))
 placed_case true cs e f fs h = ap (λ ps. entry_of f ∷ ps) h
 placed_case false cs e f fs h = refl
 
 entries_placed : (cs : List Column) (e : Entry) (fs : List Entry)
-    → entries_of (placed (entry_below cs) e fs) ≡ placed (below cs) (entry_of e) (entries_of fs)
+    → entries_of (placed (keyed_below cs) e fs) ≡ placed (below cs) (entry_of e) (entries_of fs)
 entries_placed cs e [] = refl
-entries_placed cs e (f ∷ fs) = placed_case (entry_below cs f e) cs e f fs (entries_placed cs e fs)
+entries_placed cs e (f ∷ fs) = placed_case (keyed_below cs f e) cs e f fs (entries_placed cs e fs)
 
-pub entries_ordered : (cs : List Column) (es : List Entry) → entries_of (ordered (entry_below cs) es) ≡ sorted cs (entries_of es)
+pub entries_ordered : (cs : List Column) (es : List Entry) → entries_of (ordered (keyed_below cs) es) ≡ sorted cs (entries_of es)
 entries_ordered cs [] = refl
 entries_ordered cs (e ∷ es) =
-    entries_placed cs e (ordered (entry_below cs) es) ∙ ap (placed (below cs) (entry_of e)) (entries_ordered cs es)
+    entries_placed cs e (ordered (keyed_below cs) es) ∙ ap (placed (below cs) (entry_of e)) (entries_ordered cs es)

@@ -1,5 +1,6 @@
 -- Sorted runs, and the lists that they stand for.
-use Rattle.std.specs.Prelude.{◌≡◌, ℕ, suc, ◌-◌, nat_le, List, [], ◌∷◌, ◌++◌, length, map, take, Option, Some, None, Vec, if◌then◌else◌}
+use Rattle.std.specs.Prelude.{◌≡◌, ℕ, suc, Bool, ◌-◌, nat_le, List, [], ◌∷◌, ◌++◌, length, map, take, Option, Some, None, Vec, if◌then◌else◌}
+use Rattle.std.specs.Ordering.{is_lt}
 use Rattle.std.specs.declared.alloc.Global.{Global}
 use Rattle.item_tree.specs.declared.item.Item.{Item}
 use Rattle.tuple_rows.specs.declared.tuple.Tuple.{Tuple}
@@ -12,7 +13,7 @@ use Rattle.order_runs.specs.declared.run.SortFault.TheVariants as sort
 use Rattle.order_runs.specs.declared.merge.MergeFault.{MergeFault}
 use Rattle.order_runs.specs.declared.merge.MergeFault.TheVariants as merge
 use Rattle.order_runs.specs.Clashes.{first_clash}
-use Rattle.order_runs.specs.Orders.{sorted, key_lists, rows}
+use Rattle.order_runs.specs.Orders.{keys_order, sorted, key_lists, rows}
 use Rattle.order_runs.specs.Seen.{SeenStandsFor}
 
 -- tuples with their keys, as the code has them
@@ -24,6 +25,11 @@ entry_of e = (key_list e.0, sequences e.1)
 
 abbrev pub entries_of : List Entry → List Keyed
 entries_of es = map entry_of es
+
+-- the order of whatever has keys
+abbrev pub keyed_below : {T : Type 0} → List Column → Vec (Option Item) Global × T
+    → Vec (Option Item) Global × T → Bool
+keyed_below columns a b = is_lt (keys_order columns (key_list a.0) (key_list b.0))
 
 -- the run stands for this list, which it was sorted from
 pub record RunStandsFor (columns : List Column) (run : Run) (X : List Keyed) : Type 0 where

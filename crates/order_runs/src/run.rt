@@ -1,8 +1,8 @@
 ghost use Rattle.std.specs.Prelude.{◌≡◌, ◌<◌, ◌^◌, ◌≤◌, None, List, length, IfOk, IfErr};
 ghost use Rattle.order_runs.specs.Clashes.{first_clash};
-ghost use Rattle.order_runs.specs.Orders.{key_lists, below, sorted};
+ghost use Rattle.order_runs.specs.Orders.{key_lists, below, ordered, sorted};
 ghost use Rattle.order_runs.specs.Seen.{SeenStandsFor, AllCount};
-ghost use Rattle.order_runs.specs.Runs.{entries_of};
+ghost use Rattle.order_runs.specs.Runs.{keyed_below, entries_of};
 
 use crate::compare::compare_keys;
 use crate::{ClassSeen, Column};
@@ -115,7 +115,21 @@ fn seen_of(
     Ok(seen)
 }
 
+/// What has keys, sorted by the columns of the keys, with ties in place. Nothing is copied.
+pub fn sort_keyed<T: Drop>(
+    columns: &[Column],
+    entries: Vec<(Vec<Option<Item>>, T)>,
+) -> Result<Vec<(Vec<Option<Item>>, T)>, NoMemory>
+    ensures { IfOk result (λ v. v.items ≡ ordered (keyed_below columns.now) entries.items) }
+{
+    keys_agree();
+    let mut entries = entries;
+    entries.sort_by(|a, b| compare_keys(columns, a.0.as_slice(), b.0.as_slice()))?;
+    Ok(entries)
+}
+
 // The tuples by the columns of their keys, with ties in place.
+#[tactic(auto, using(crate::proofs::TotalKeys::entries_ordered))]
 pub(crate) fn sorted(
     columns: &[Column],
     entries: Vec<(Vec<Option<Item>>, Tuple)>,
@@ -123,8 +137,5 @@ pub(crate) fn sorted(
     ensures { IfOk result
         (λ v. entries_of v.items ≡ sorted columns.now (entries_of entries.items)) }
 {
-    keys_agree();
-    let mut entries = entries;
-    entries.sort_by(|a, b| compare_keys(columns, a.0.as_slice(), b.0.as_slice()))?;
-    Ok(entries)
+    sort_keyed(columns, entries)
 }
