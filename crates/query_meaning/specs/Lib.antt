@@ -1,6 +1,6 @@
 pub mod Outcome
-pub mod Inputs
 pub mod Library
+pub mod Inputs
 pub mod Environment
 pub mod Checks
 pub mod Operators
@@ -13,7 +13,9 @@ pub mod Groups
 pub mod Orders
 pub mod Clauses
 pub mod Flwors
+pub mod Pieces
 pub mod Meaning
+pub mod Sources
 pub mod Queries
 pub mod inside
 pub mod Laws
