@@ -1,27 +1,21 @@
 -- What an ending is, by the parts that it was made of.
-use Rattle.std.proofs.Common.{◌≡◌, ℕ, List, ◌++◌, Option, None, Some, Result, Ok, Err, refl, sym, ap, ◌∙◌, subst, codes, inr, arith, map}
+use Rattle.std.proofs.Common.{◌≡◌, ℕ, List, ◌++◌, Option, None, Some, Result, Ok, Err, refl, sym, ap, ◌∙◌, subst, codes, inr, arith}
 use Rattle.std.specs.Prelude.{IfSome, IfOk}
 use Rattle.std.specs.Str.{encode_utf8_all}
-use Rattle.item_tree.specs.Faults.{fault_at}
-use Rattle.item_tree.specs.declared.code.Code.TheVariants.{PJST0099}
 use Rattle.item_tree.specs.declared.fault.Fault.{Fault}
 use Rattle.item_reader.specs.Lines.{without_mark}
 use Rattle.outside.specs.World.{World, file_of}
-use Rattle.query_tree.specs.Compiled.{BoundTrees}
-use Rattle.rumble_run.specs.Answer.{Answer, IsAnswer, IsOfQuery, IsOfCommand, IsOfFile, IsOfTree, of_outcome, says, refused, accepted, usage}
-use Rattle.rumble_run.specs.inside.Computed.{of_tree, of_run}
-use Rattle.rumble_run.proofs.Computing.{tree_answered}
-use Rattle.query_meaning.specs.Outcome.{Outcome, at_place}
-use Rattle.query_meaning.specs.Inputs.{all_there}
-use Rattle.query_meaning.specs.Library.{given}
-use Rattle.query_meaning.specs.inside.Computed.{read_of}
-use Rattle.rumble_run.specs.Built.{call_of}
-use Rattle.rumble_run.specs.inside.Held.{read_held, given_by}
-use Rattle.rumble_run.specs.declared.inputs.Held.{Held}
+use Rattle.query_tree.specs.Inputs.{input_names}
+use Rattle.query_meaning.specs.Library.{Library}
+use Rattle.query_meaning.specs.Outcome.{Outcome}
+use Rattle.query_meaning.specs.Queries.{query_value}
+use Rattle.query_meaning.specs.inside.Computed.{inputs_of}
+use Rattle.rumble_run.specs.Answer.{Answer, IsAnswer, IsOfQuery, IsOfCommand, IsOfFile, IsOfExecutable, of_outcome, says, refused, accepted, usage}
 use Rattle.rumble_run.specs.Command.{command_of}
-use Rattle.rumble_run.specs.Front.{IsFront}
-use Rattle.rumble_run.specs.Place.{line_of, column_of}
 use Rattle.rumble_run.specs.Ends.{StatusBy, Completes, Calm}
+use Rattle.rumble_run.specs.Front.{Executable, IsFront}
+use Rattle.rumble_run.specs.Place.{line_of, column_of}
+use Rattle.rumble_run.specs.inside.Computed.{of_executable, of_run}
 use Rattle.rumble_run.specs.inside.Seen.{IsShaped, IsOfStatus, EndsAs, answer_of}
 use Rattle.rumble_run.specs.declared.ending.Ending.{Ending}
 use Rattle.rumble_run.specs.declared.status.Status.{Status}
@@ -29,6 +23,7 @@ use Rattle.rumble_run.specs.declared.status.Stop.{Stop}
 use Rattle.rumble_run.specs.declared.status.Status.TheVariants.{Done, Raised, Refused, Usage, ReadFault, WriteFault, NoMemory, NoQuery}
 use Rattle.rumble_run.specs.declared.words.Task.{Task}
 use Rattle.rumble_run.specs.declared.words.Task.TheVariants.{Run, Check}
+use Rattle.rumble_run.proofs.Computing.{executable_answered}
 
 abbrev pub IsOf : Answer → Type 0
 IsOf a = IsOfStatus a.out a.err a.status
@@ -49,22 +44,17 @@ of_given text (Err fault) = ((fault.code, line_of text fault.place, column_of te
 pub of_outcome_is : (a : Answer) (text : List ℕ) (outcome : Outcome) → a ≡ of_outcome text outcome → IsOf a
 of_outcome_is a text outcome e = subst IsOf (sym e) (of_given text outcome)
 
--- ---- the answer to a tree
+-- ---- the answer to a compiled query
 
-pub run_unbuilt : (a : Answer) (text : List ℕ) (tree : BoundTrees) (world : Option World) → None ≡ call_of tree → a ≡ refused text (fault_at PJST0099 0) → IfSome world (λ w. a ≡ of_tree Run text w tree)
-run_unbuilt a text tree None is e = tt
-run_unbuilt a text tree (Some w) is e = e ∙ ap (of_run text w) is
+pub run_ended : (a : Answer) (text : List ℕ) (query : Executable) (library : Library) (world : Option World) → IfSome world (λ w. library ≡ inputs_of w (input_names query.trees))
+    → a ≡ of_outcome text (query_value query.width query.trees library) → IfSome world (λ w. a ≡ of_run text w query)
+unfolding of_run
+run_ended a text query library None is e = tt
+run_ended a text query library (Some w) is e = e ∙ ap (λ l. of_outcome text (query_value query.width query.trees l)) is
 
-pub run_read : (a : Answer) (text : List ℕ) (tree : BoundTrees) (names : List (List ℕ)) (place : ℕ) (held : List Held) (world : Option World)
-    → Some (record { names = names; place = place }) ≡ call_of tree
-    → IfSome world (λ w. map read_held held ≡ map (read_of w) names) → a ≡ of_outcome text (at_place place (given_by held)) → IfSome world (λ w. a ≡ of_tree Run text w tree)
-run_read a text tree names place held None is i e = tt
-run_read a text tree names place held (Some w) is i e =
-    e ∙ ap (λ rs. of_outcome text (at_place place (given (all_there rs)))) i ∙ ap (of_run text w) is
-
-pub check_accepts : (a : Answer) (text : List ℕ) (tree : BoundTrees) (world : Option World) → a ≡ accepted → IfSome world (λ w. a ≡ of_tree Check text w tree)
-check_accepts a text tree None e = tt
-check_accepts a text tree (Some w) e = e
+pub check_accepts : (a : Answer) (text : List ℕ) (query : Executable) (world : Option World) → a ≡ accepted → IfSome world (λ w. a ≡ of_executable Check text w query)
+check_accepts a text query None e = tt
+check_accepts a text query (Some w) e = e
 
 -- ---- the answer to a query
 
@@ -73,17 +63,17 @@ pub query_refused : (a : Answer) (task : Task) (query text : List ℕ) (fault : 
 query_refused a task query text fault None behind front e = tt
 query_refused a task query text fault (Some w) behind front e = (Err fault, front, e ∙ ap (λ t. refused t fault) behind)
 
-query_compiled : (a : Answer) (task : Task) (query text : List ℕ) (tree : BoundTrees) (world : Option World) → text ≡ without_mark query → IsFront query (Ok tree)
-    → IfSome world (λ w. a ≡ of_tree task text w tree) → IfSome world (λ w. IsOfQuery task w query a)
-query_compiled a task query text tree None behind front e = tt
-query_compiled a task query text tree (Some w) behind front e =
-    let same : a ≡ of_tree task (without_mark query) w tree = e ∙ ap (λ t. of_tree task t w tree) behind in
-    (Ok tree, front, subst (IsOfTree task (without_mark query) w tree) (sym same) (tree_answered task (without_mark query) w tree))
+query_compiled : (a : Answer) (task : Task) (bytes text : List ℕ) (query : Executable) (world : Option World) → text ≡ without_mark bytes → IsFront bytes (Ok query)
+    → IfSome world (λ w. a ≡ of_executable task text w query) → IfSome world (λ w. IsOfQuery task w bytes a)
+query_compiled a task bytes text query None behind front e = tt
+query_compiled a task bytes text query (Some w) behind front e =
+    let same : a ≡ of_executable task (without_mark bytes) w query = e ∙ ap (λ t. of_executable task t w query) behind in
+    (Ok query, front, subst (IsOfExecutable task (without_mark bytes) w query) (sym same) (executable_answered task (without_mark bytes) w query))
 
-pub query_ended : (ending : Result Ending Stop) (task : Task) (query text : List ℕ) (tree : BoundTrees) (world : Option World) → text ≡ without_mark query → IsFront query (Ok tree)
-    → IfOk ending (λ e. IfSome world (λ w. answer_of e ≡ of_tree task text w tree)) → IfOk ending (λ e. IfSome world (λ w. IsOfQuery task w query (answer_of e)))
-query_ended (Ok e) task query text tree world behind front h = query_compiled (answer_of e) task query text tree world behind front h
-query_ended (Err stop) task query text tree world behind front h = tt
+pub query_ended : (ending : Result Ending Stop) (task : Task) (bytes text : List ℕ) (query : Executable) (world : Option World) → text ≡ without_mark bytes → IsFront bytes (Ok query)
+    → IfOk ending (λ e. IfSome world (λ w. answer_of e ≡ of_executable task text w query)) → IfOk ending (λ e. IfSome world (λ w. IsOfQuery task w bytes (answer_of e)))
+query_ended (Ok e) task bytes text query world behind front h = query_compiled (answer_of e) task bytes text query world behind front h
+query_ended (Err stop) task bytes text query world behind front h = tt
 
 -- ---- the answer to the words
 

@@ -12,7 +12,7 @@ use Rattle.item_reader.specs.Lines.{without_mark}
 use Rattle.query_lexer.specs.Lexes.{Tokens, Refused}
 use Rattle.query_lexer.specs.declared.token.Token.{Token}
 use Rattle.query_grammar.specs.Laws.{IsDecided}
-use Rattle.query_tree.specs.Compiled.{CompiledTree, bound_trees}
+use Rattle.query_tree.specs.Compiled.{CompiledTree}
 use Rattle.query_grammar.specs.Nodes.{Module}
 use Rattle.query_grammar.specs.Texts.{Derives, IsRefused}
 use Rattle.query_grammar.specs.Words.{AreWordsAt}
@@ -28,6 +28,7 @@ use Rattle.static_rules.specs.declared.rules.Refusal.{Refusal}
 use Rattle.rumble_run.specs.Answer.{says}
 use Rattle.rumble_run.specs.Front.{Front, IsFront, IsFrontBehindMark, IsFrontOfText, IsFrontOfTokens, BreaksAt, refused_at, max_length, front_by, static_front}
 use Rattle.rumble_run.specs.Laws.{HasOneFront}
+use Rattle.rumble_run.specs.inside.Seen.{executable_of}
 use Rattle.rumble_run.proofs.Wording.{words_of_text}
 
 -- ---- where bytes stop being UTF-8
@@ -99,9 +100,9 @@ front_is query = by (cases_lt max_length (length query))
     by (inr l) = let f : (front : Front) × IsFrontBehindMark (without_mark query) front = front_behind_mark (without_mark query) in (f.0, inr (l, f.1))
 
 -- what compiling a query says
-pub compiles : (query : Module) (c : CompiledTree) → CompilesTo query c → Ok (bound_trees c.tree) ≡ static_front query
+pub compiles : (query : Module) (c : CompiledTree) → CompilesTo query c → Ok (executable_of c) ≡ static_front query
 unfolding static_front
-compiles query c h = ap (λ t. Ok t) h.tree ∙ sym (ap (front_by query) h.accepted)
+compiles query c h = (λ i. Ok (record { trees = h.tree i; width = h.width i })) ∙ sym (ap (front_by query) h.accepted)
 
 pub refuses : (query : Module) (code : Code) (place : ℕ) → ((r : Refusal) × (refusal query ≡ Some r) × (code ≡ code_of r.rule) × (place ≡ r.place)) → refused_at code place ≡ static_front query
 unfolding static_front

@@ -2,11 +2,9 @@ pub mod Texts
 pub mod Cutting
 pub mod ItemLists
 pub mod FileReads
-pub mod Trees
 pub mod Wording
 pub mod Computing
 pub mod Fronts
 pub mod Answered
-pub mod HeldLists
 pub mod Opened
 pub mod Endings

@@ -3,21 +3,20 @@
 use Rattle.std.specs.Prelude.{◌≡◌, ℕ, List, [], ◌∷◌, ◌++◌, Option, None, Some, IfSome, Ok, Err, codes}
 use Rattle.std.specs.Fmt.{decimal}
 use Rattle.std.specs.Str.{encode_utf8_all}
-use Rattle.item_tree.specs.declared.code.Code.TheVariants.{PJST0099}
 use Rattle.item_tree.specs.declared.fault.Fault.{Fault}
 use Rattle.item_tree.specs.declared.fault.Spot.{Spot}
 use Rattle.item_tree.specs.Codes.{code_text}
 use Rattle.item_tree.specs.Datum.{Datum}
-use Rattle.item_tree.specs.Faults.{fault_at}
 use Rattle.item_tree.specs.ItemText.{item_text}
 use Rattle.item_reader.specs.Lines.{without_mark}
 use Rattle.outside.specs.World.{World, file_of}
-use Rattle.query_tree.specs.Compiled.{BoundTrees}
-use Rattle.query_meaning.specs.Inputs.{InputsGive}
+use Rattle.query_tree.specs.Inputs.{input_names}
+use Rattle.query_meaning.specs.Inputs.{InputsReadAs}
+use Rattle.query_meaning.specs.Library.{Library}
 use Rattle.query_meaning.specs.Outcome.{Outcome}
-use Rattle.rumble_run.specs.Built.{Call, call_of}
+use Rattle.query_meaning.specs.Queries.{query_value}
 use Rattle.rumble_run.specs.Command.{command_of}
-use Rattle.rumble_run.specs.Front.{Front, IsFront}
+use Rattle.rumble_run.specs.Front.{Executable, Front, IsFront}
 use Rattle.rumble_run.specs.Place.{place_text}
 use Rattle.rumble_run.specs.declared.status.Status.{Status}
 use Rattle.rumble_run.specs.declared.status.Status.TheVariants.{Done, Raised, Refused, Usage, NoQuery}
@@ -75,24 +74,20 @@ abbrev pub of_outcome : List ℕ → Outcome → Answer
 of_outcome text (Ok items) = prints items
 of_outcome text (Err fault) = raised text fault
 
--- `run` is not built yet for such a query
-abbrev pub unbuilt : List ℕ → Answer
-unbuilt text = refused text (fault_at PJST0099 0)
+-- a query that is run over its inputs
+abbrev pub IsOfRun : List ℕ → World → Executable → Answer → Type 0
+IsOfRun text world query answer =
+    (library : Library)
+    × InputsReadAs world (input_names query.trees) library
+    × (answer ≡ of_outcome text (query_value query.width query.trees library))
 
--- a query that is run: what its call of `json-lines` gives
-abbrev pub IsOfRun : List ℕ → World → Option Call → Answer → Type 0
-IsOfRun text world None answer = answer ≡ unbuilt text
-IsOfRun text world (Some call) answer =
-    (outcome : Outcome)
-    × InputsGive world call.names call.place outcome × (answer ≡ of_outcome text outcome)
-
-abbrev pub IsOfTree : Task → List ℕ → World → BoundTrees → Answer → Type 0
-IsOfTree Check text world tree answer = answer ≡ accepted
-IsOfTree Run text world tree answer = IsOfRun text world (call_of tree) answer
+abbrev pub IsOfExecutable : Task → List ℕ → World → Executable → Answer → Type 0
+IsOfExecutable Check text world query answer = answer ≡ accepted
+IsOfExecutable Run text world query answer = IsOfRun text world query answer
 
 -- a query with this front: refused, or the task is done
 abbrev pub IsOfFront : Task → List ℕ → World → Front → Answer → Type 0
-IsOfFront task text world (Ok tree) answer = IsOfTree task text world tree answer
+IsOfFront task text world (Ok query) answer = IsOfExecutable task text world query answer
 IsOfFront task text world (Err fault) answer = answer ≡ refused text fault
 
 -- the answer to a query of these bytes

@@ -1,4 +1,4 @@
--- The front of a query: the compiled tree that its bytes come to, or why they are refused and
+-- The front of a query: the compiled query that its bytes come to, or why they are refused and
 -- where.
 use Rattle.std.specs.Prelude.{◌≡◌, ◌⊎◌, ◌<◌, ◌≤◌, ℕ, List, Option, Some, None, length, take, Result, Ok, Err}
 use Rattle.std.specs.Str.{IsUtf8}
@@ -13,7 +13,7 @@ use Rattle.query_tree.specs.Compiled.{BoundTrees}
 use Rattle.query_grammar.specs.Nodes.{Module}
 use Rattle.query_parser.specs.Queries.{IsQuery, IsFault}
 use Rattle.query_parser.specs.declared.reading.ParseFault.TheVariants as fault
-use Rattle.static_rules.specs.Compiling.{compiled_query}
+use Rattle.static_rules.specs.Compiling.{compiled_query, query_width}
 use Rattle.static_rules.specs.Refusals.{refusal}
 use Rattle.static_rules.specs.Rules.{code_of}
 use Rattle.static_rules.specs.declared.rules.Refusal.{Refusal}
@@ -22,8 +22,13 @@ use Rattle.static_rules.specs.declared.rules.Refusal.{Refusal}
 abbrev pub max_length : ℕ
 max_length = 1048576
 
+-- a compiled query, whose frames have this width
+pub record Executable : Type 0 where
+  pub trees : BoundTrees
+  pub width : ℕ
+
 abbrev pub Front : Type 0
-Front = Result BoundTrees Fault
+Front = Result Executable Fault
 
 abbrev pub refused_at : Code → ℕ → Front
 refused_at code place = Err (fault_at code place)
@@ -38,7 +43,8 @@ pub record BreaksAt (bytes : List ℕ) (place : ℕ) : Type 0 where
 -- what a query comes to that has this static refusal
 abbrev pub front_by : Module → Option Refusal → Front
 front_by query (Some r) = refused_at (code_of r.rule) r.place
-front_by query None = Ok (compiled_query query)
+front_by query None =
+    Ok (record { trees = compiled_query query; width = query_width query })
 
 -- what a query comes to: it is refused where it breaks a static rule, and else compiled
 unfoldable pub static_front : Module → Front

@@ -1,7 +1,6 @@
 pub mod Command
 pub mod Place
 pub mod Front
-pub mod Built
 pub mod Answer
 pub mod Opens
 pub mod Laws

@@ -1,36 +1,20 @@
 -- Which files a command line opens, in order.
-use Rattle.std.specs.Prelude.{◌≡◌, ℕ, List, [], ◌∷◌, ◌++◌, Option, None, Some, Ok, Err, Bool, is_some, IfSome, filter, if◌then◌else◌}
-use Rattle.std.specs.Str.{bytes_eq}
-use Rattle.std.specs.List.{position}
+use Rattle.std.specs.Prelude.{◌≡◌, ℕ, List, [], ◌∷◌, Option, None, Some, Ok, Err, is_some, IfSome, filter}
 use Rattle.outside.specs.World.{World, file_of}
-use Rattle.rumble_run.specs.Built.{Call, call_of}
+use Rattle.query_tree.specs.Inputs.{input_names}
 use Rattle.rumble_run.specs.Command.{command_of}
 use Rattle.rumble_run.specs.Front.{Front, IsFront}
 use Rattle.rumble_run.specs.declared.words.Task.{Task}
 use Rattle.rumble_run.specs.declared.words.Task.TheVariants.{Run, Check}
 
-abbrev pub is_among : List ℕ → List (List ℕ) → Bool
-is_among name names = is_some (position (λ n. bytes_eq n name) names)
-
--- the names that are not among these before them, each where it stands first
-abbrev pub new_names : List (List ℕ) → List (List ℕ) → List (List ℕ)
-new_names before [] = []
-new_names before (n ∷ ns) =
-    if is_among n before then new_names (before ++ n ∷ []) ns
-    else n ∷ new_names (before ++ n ∷ []) ns
-
--- the different names of which there are files, in order of first appearance
+-- those of these names of which there are files
 abbrev pub files_among : World → List (List ℕ) → List (List ℕ)
-files_among world names = filter (λ n. is_some (file_of world n)) (new_names [] names)
+files_among world names = filter (λ n. is_some (file_of world n)) names
 
-abbrev pub call_opens : World → Option Call → List (List ℕ)
-call_opens world None = []
-call_opens world (Some call) = files_among world call.names
-
--- the inputs that are opened for a query with this front: for one that is run, those of its calls
--- of `json-lines`
+-- the inputs that are opened for a query with this front: for one that is run, each input that is
+-- there of its calls of `json-lines`, once, in order of first appearance
 abbrev pub inputs_opened : Task → World → Front → List (List ℕ)
-inputs_opened Run world (Ok tree) = call_opens world (call_of tree)
+inputs_opened Run world (Ok query) = files_among world (input_names query.trees)
 inputs_opened Run world (Err fault) = []
 inputs_opened Check world front = []
 

@@ -1,40 +1,63 @@
-ghost use Rattle.std.specs.Prelude.{◌≡◌, ◌≢◌, ◌≤◌, None, Ok, IfOk, IfErr, IfSome, length, string_bytes, IsErrOf};
-ghost use Rattle.query_meaning.specs.Outcome.{at_place};
+ghost use Rattle.std.specs.Prelude.{◌≡◌, ◌≢◌, None, Ok, IfOk, IfErr, IfSome, length, string_bytes, IsErrOf};
+ghost use Rattle.query_meaning.specs.Outcome.{Outcome};
+ghost use Rattle.query_meaning.specs.Queries.{query_value};
+ghost use Rattle.query_meaning.specs.inside.Gives.{Gives};
+ghost use Rattle.query_meaning.specs.inside.Views.{library_of, values_of};
+ghost use Rattle.query_tree.specs.Compiled.{bound_trees};
+ghost use Rattle.query_tree.specs.Inputs.{input_names};
 ghost use Rattle.rumble_run.specs.Answer.{IsAnswer, IsOfQuery, of_outcome, usage};
-ghost use Rattle.rumble_run.specs.Built.{call_of};
 ghost use Rattle.rumble_run.specs.Command.{command_of};
 ghost use Rattle.rumble_run.specs.Ends.{OpensBy, ChecksAlone};
 ghost use Rattle.rumble_run.specs.Front.{Front, IsFront};
-ghost use Rattle.rumble_run.specs.Opens.{call_opens, inputs_opened, OfOpened};
-ghost use Rattle.rumble_run.specs.inside.Computed.{of_tree};
-ghost use Rattle.rumble_run.specs.inside.Held.{given_by};
+ghost use Rattle.rumble_run.specs.Opens.{files_among, inputs_opened, OfOpened};
+ghost use Rattle.rumble_run.specs.inside.Computed.{of_run, of_executable};
 ghost use Rattle.rumble_run.specs.inside.Reads.{Leaves, OpenedTo};
-ghost use Rattle.rumble_run.specs.inside.Seen.{answer_of, IsShaped, IsOfStatus, LeavesRun, plain_of};
+ghost use Rattle.rumble_run.specs.inside.Seen.{answer_of, IsShaped, IsOfStatus, LeavesRun, executable_of};
 
-use crate::built::call_of;
 use crate::ending::Ending;
 use crate::front::{FrontFault, front};
-use crate::inputs::{Held, fault_of, read_inputs};
+use crate::inputs::read_inputs;
 use crate::mark::without_mark;
 use crate::read::read_named;
 use crate::status::Stop;
 use crate::telling::{accepts, prints, tells_error, tells_no_query, tells_refusal, tells_usage};
 use crate::words::{Task, command_of};
-use item_tree::{Code, Fault, Str};
+use expr_eval::eval_query;
+use item_tree::{Item, Str};
 use outside::Inputs;
-use query_tree::{Compiled, discard};
+use query_meaning::{EvalFault, Library};
+use query_tree::{Compiled, discard, input_names};
 use std::alloc::Global;
 
-// What a call of `json-lines` at this place comes to.
-fn of_inputs(alloc: Global, text: &[u8], place: u32, held: &[Held]) -> Result<Ending, Stop>
-    ensures value { IfOk result (λ e.
-        answer_of e ≡ of_outcome text.now (at_place place (given_by held.now))) }
+// What a query comes to that has this value, or this fault.
+fn of_outcome(
+    alloc: Global,
+    text: &[u8],
+    given: Result<Vec<Item>, EvalFault>,
+) -> Result<Ending, Stop>
+    ensures value { IfOk result (λ e. (outcome : Outcome) → Gives values_of given outcome
+        → answer_of e ≡ of_outcome text.now outcome) }
     ensures memory { IfErr result (λ stop. stop ≡ Stop.NoMemory) }
 {
-    match fault_of(held) {
-        Some(code) => Ok(tells_error(alloc, text, &Fault::at(code, place))?),
-        None => Ok(prints(alloc, held)?),
+    match given {
+        Ok(items) => Ok(prints(alloc, &items)?),
+        Err(EvalFault::Raised(fault)) => Ok(tells_error(alloc, text, &fault)?),
+        Err(EvalFault::NoMemory) => Err(Stop::NoMemory),
     }
+}
+
+// What a query comes to whose inputs are read.
+fn of_library(
+    alloc: Global,
+    text: &[u8],
+    query: &Compiled,
+    library: &Library,
+) -> Result<Ending, Stop>
+    ensures value { IfOk result (λ e. answer_of e ≡ of_outcome text.now
+        (query_value query.now.width (bound_trees query.now.tree) (library_of library.now))) }
+    ensures memory { IfErr result (λ stop. stop ≡ Stop.NoMemory) }
+{
+    of_outcome(alloc, text, eval_query(alloc, query, library))
 }
 
 // What a query comes to that is run over its inputs.
@@ -46,24 +69,21 @@ fn of_run<I: Inputs>(
 ) -> Result<Ending, Stop>
     ensures world { I.world inputs.new ≡ I.world inputs.old }
     ensures value { IfOk result (λ e. IfSome (I.world inputs.old) (λ w.
-        answer_of e ≡ of_tree Task.Run text.now w (plain_of query.now))) }
+        answer_of e ≡ of_run text.now w (executable_of query.now))) }
     ensures shape { IfOk result (λ e. IsOfStatus e.out.items (string_bytes e.err) e.status) }
     ensures counts { LeavesRun result (I.counts inputs.old) (I.counts inputs.new) }
     ensures opened { IfSome (I.world inputs.old) (λ w. OpenedTo result
-        (length (call_opens w (call_of (plain_of query.now)))) (I.counts inputs.old)
-        (I.counts inputs.new)) }
+        (length (files_among w (input_names (bound_trees query.now.tree))))
+        (I.counts inputs.old) (I.counts inputs.new)) }
 {
-    let Some((names, place)) = call_of(query) else {
-        let fault = Fault::at(Code::PJST0099, 0);
-        return Ok(tells_refusal(alloc, text, &fault)?);
-    };
-    let held = read_inputs(alloc, inputs, names)?;
-    let ending = of_inputs(alloc, text, place, &held)?;
+    let names = input_names(alloc, query.module())?;
+    let library = read_inputs(alloc, inputs, &names)?;
+    let ending = of_library(alloc, text, query, &library)?;
     Ok(ending)
 }
 
-// What a tree comes to: the task is done.
-fn of_tree<I: Inputs>(
+// What a compiled query comes to: the task is done.
+fn of_executable<I: Inputs>(
     alloc: Global,
     task: Task,
     text: &[u8],
@@ -72,11 +92,11 @@ fn of_tree<I: Inputs>(
 ) -> Result<Ending, Stop>
     ensures world { I.world inputs.new ≡ I.world inputs.old }
     ensures value { IfOk result (λ e. IfSome (I.world inputs.old) (λ w.
-        answer_of e ≡ of_tree task text.now w (plain_of query.now))) }
+        answer_of e ≡ of_executable task text.now w (executable_of query.now))) }
     ensures shape { IfOk result (λ e. IsOfStatus e.out.items (string_bytes e.err) e.status) }
     ensures counts { LeavesRun result (I.counts inputs.old) (I.counts inputs.new) }
     ensures opened { IfSome (I.world inputs.old) (λ w. OpenedTo result
-        (length (inputs_opened task w (Ok (plain_of query.now)))) (I.counts inputs.old)
+        (length (inputs_opened task w (Ok (executable_of query.now)))) (I.counts inputs.old)
         (I.counts inputs.new)) }
     ensures alone { task ≡ Task.Check →
         (I.counts inputs.new).opened ≡ (I.counts inputs.old).opened }
@@ -110,9 +130,9 @@ fn of_query<I: Inputs>(
 {
     let text = without_mark(query);
     match front(alloc, query) {
-        Ok(tree) => {
-            let ending = of_tree(alloc, task, text, &tree, inputs);
-            discard(tree);
+        Ok(compiled) => {
+            let ending = of_executable(alloc, task, text, &compiled, inputs);
+            discard(compiled);
             ending
         }
         Err(FrontFault::Refused(fault)) => Ok(tells_refusal(alloc, text, &fault)?),

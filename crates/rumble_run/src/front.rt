@@ -29,7 +29,7 @@ fn refused(code: Code, place: u32) -> FrontFault
     FrontFault::Refused(Fault::at(code, place))
 }
 
-// The compiled tree of a query, or its static refusal.
+// The compiled query, or its static refusal.
 fn front_of_query(alloc: Global, query: &Query) -> Result<Compiled, FrontFault>
     ensures { IfSome (front_of result) (λ front. front ≡ static_front (named_query query.now)) }
 {
@@ -40,7 +40,7 @@ fn front_of_query(alloc: Global, query: &Query) -> Result<Compiled, FrontFault>
     }
 }
 
-// The compiled tree of a text, or its first refusal.
+// The compiled query of a text, or its first refusal.
 fn front_of_text(alloc: Global, text: &str) -> Result<Compiled, FrontFault>
     ensures { IfSome (front_of result) (λ front. IsFrontOfText text.now front) }
 {
@@ -60,7 +60,7 @@ fn front_of_text(alloc: Global, text: &str) -> Result<Compiled, FrontFault>
     }
 }
 
-/// The compiled tree of a query of these bytes, or its first refusal.
+/// The compiled query of these bytes, or its first refusal.
 pub(crate) fn front(alloc: Global, query: &[u8]) -> Result<Compiled, FrontFault>
     ensures { IfSome (front_of result) (λ front. IsFront query.now front) }
 {

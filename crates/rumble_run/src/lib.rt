@@ -9,7 +9,6 @@ ghost use Rattle.rumble_run.specs.Command.{command_of};
 ghost use Rattle.rumble_run.specs.Ends.{StatusBy, OutBy, err_by, HasText, Wrote, Calm, Completes, FaultsRose, MissesRose, OpensBy, OpenedBy, ChecksAlone, IsBalanced, NoCountFalls};
 ghost use Rattle.rumble_run.specs.Opens.{OfOpened};
 
-mod built;
 mod decide;
 mod ending;
 mod finish;
@@ -20,6 +19,8 @@ pub mod laws;
 mod mark;
 mod place;
 mod print;
+#[cfg(test)]
+mod query_tests;
 mod read;
 #[cfg(test)]
 mod rule_tests;

@@ -3,16 +3,15 @@
 ghost use Rattle.std.specs.Prelude.{◌≡◌, [], ◌++◌, IfOk, codes, string_bytes};
 ghost use Rattle.std.specs.Fmt.{decimal};
 ghost use Rattle.std.specs.Str.{encode_utf8_all};
+ghost use Rattle.item_tree.specs.Item.{datums};
 ghost use Rattle.rumble_run.specs.Answer.{says, writes, prints, refused, raised, fault_text, clause_text, spot_text, accepted, usage};
-ghost use Rattle.rumble_run.specs.inside.Held.{all_items};
 ghost use Rattle.rumble_run.specs.inside.Seen.{answer_of};
 
 use crate::ending::Ending;
-use crate::inputs::Held;
 use crate::place::line_column;
-use crate::print::print_inputs;
+use crate::print::print_items;
 use crate::status::Status;
-use item_tree::{Fault, NoMemory, Spot, Str};
+use item_tree::{Fault, Item, NoMemory, Spot, Str};
 use std::alloc::{AllocError, Global};
 
 // The words that the program knows.
@@ -129,10 +128,10 @@ pub(crate) fn accepts(alloc: Global) -> Result<Ending, AllocError>
     Ok(writes(alloc, out))
 }
 
-/// The items of inputs are printed.
-pub(crate) fn prints(alloc: Global, held: &[Held]) -> Result<Ending, NoMemory>
-    ensures { IfOk result (λ e. answer_of e ≡ prints (all_items held.now)) }
+/// These items are printed.
+pub(crate) fn prints(alloc: Global, items: &[Item]) -> Result<Ending, NoMemory>
+    ensures { IfOk result (λ e. answer_of e ≡ prints (datums items.now)) }
 {
-    let out = print_inputs(alloc, held)?;
+    let out = print_items(alloc, items)?;
     Ok(writes(alloc, out))
 }

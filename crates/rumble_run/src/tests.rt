@@ -13,15 +13,15 @@ const ONE_QUERY: &[u8] = b"json-lines(\"a\")";
 
 /// What a run leaves.
 #[derive(Drop)]
-struct Outcome {
-    status: Status,
-    out: MemSink,
-    err: MemSink,
+pub(crate) struct Outcome {
+    pub status: Status,
+    pub out: MemSink,
+    pub err: MemSink,
 }
 
 type Files = Vec<(Str, Vec<u8>)>;
 
-fn add(alloc: Global, files: &mut Files, name: &str, bytes: &[u8]) -> Result<(), Fail> {
+pub(crate) fn add(alloc: Global, files: &mut Files, name: &str, bytes: &[u8]) -> Result<(), Fail> {
     files.push((Str::of(alloc, name)?, bytes.to_vec(alloc)?))?;
     Ok(())
 }
@@ -42,7 +42,7 @@ fn texts(alloc: Global, words: &[&str]) -> Result<Vec<Str>, Fail> {
 }
 
 // A run over these inputs, whose sinks have so much room and take seven bytes at once.
-fn run<R: Threads + Wait + Sync, I: Inputs + Drop>(
+pub(crate) fn run<R: Threads + Wait + Sync, I: Inputs + Drop>(
     rt: &R,
     alloc: Global,
     words: &[&str],
@@ -315,27 +315,6 @@ fn refuses_queries(rt: HostRuntime) -> Result<(), Fail> {
     let mut marked = b"\xef\xbb\xbf1".to_vec(alloc)?;
     marked.extend_from_slice(&repeated(alloc, (b' ', 1), (b' ', 1_048_572))?)?;
     assert_refused(&rt, alloc, "run", &marked, "PJST0005 at 1:1")
-}
-
-// Queries that `check` accepts and `run` is not built for.
-#[test]
-fn refuses_to_run(rt: HostRuntime) -> Result<(), Fail> {
-    let alloc = rt.alloc();
-    let cases: [&[u8]; 8] = [
-        b"1",
-        b"\n\n1",
-        b"(json-lines(\"a\"))",
-        b"count(json-lines(\"a\"))",
-        b"json-lines(\"a\"), 1",
-        b"json-lines(\"a\")[true]",
-        b"declare variable $x := 1; json-lines(\"a\")",
-        b"declare function f() { 1 }; json-lines(\"a\")",
-    ];
-    for query in cases {
-        assert_accepted(&rt, alloc, query)?;
-        assert_refused(&rt, alloc, "run", query, "PJST0099 at 1:1")?;
-    }
-    Ok(())
 }
 
 // What a run raises, at the place of `json-lines`, and what it prints.

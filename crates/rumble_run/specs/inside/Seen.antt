@@ -2,10 +2,10 @@
 use Rattle.std.specs.Prelude.{◌≡◌, ℕ, List, [], Option, None, Some, Result, Ok, Err, IfOk, string_bytes}
 use Rattle.outside.specs.Counted.{Rose}
 use Rattle.outside.specs.Opens.{InputCounts}
-use Rattle.query_tree.specs.Compiled.{BoundTrees, CompiledTree, bound_trees}
+use Rattle.query_tree.specs.Compiled.{CompiledTree, bound_trees}
 use Rattle.rumble_run.specs.Answer.{Answer}
 use Rattle.rumble_run.specs.Ends.{HasText, LooksForNone}
-use Rattle.rumble_run.specs.Front.{Front}
+use Rattle.rumble_run.specs.Front.{Executable, Front}
 use Rattle.rumble_run.specs.declared.front.FrontFault.{FrontFault}
 use Rattle.rumble_run.specs.declared.front.FrontFault.TheVariants as front
 use Rattle.rumble_run.specs.inside.Reads.{Leaves}
@@ -51,13 +51,13 @@ abbrev pub EndsAs : Status → Status → ℕ → ℕ → Type 0
 EndsAs status WriteFault before after = (status ≡ Done) × Rose before after
 EndsAs status result before after = (result ≡ status) × (after ≡ before)
 
--- a compiled query's tree as a plain value
-abbrev pub plain_of : CompiledTree → BoundTrees
-plain_of query = bound_trees query.tree
+-- a compiled query as a plain value
+abbrev pub executable_of : CompiledTree → Executable
+executable_of query = record { trees = bound_trees query.tree; width = query.width }
 
 -- a front that was found, where memory was there
 abbrev pub front_of : Result CompiledTree FrontFault → Option Front
-front_of (Ok query) = Some (Ok (plain_of query))
+front_of (Ok query) = Some (Ok (executable_of query))
 front_of (Err (front.Refused fault)) = Some (Err fault)
 front_of (Err front.NoMemory) = None
 

@@ -1,14 +1,14 @@
 use Rattle.std.proofs.Common.{Ok, Err}
 use Rattle.rumble_run.specs.Front.{IsFront}
-use Rattle.rumble_run.specs.inside.Seen.{plain_of}
+use Rattle.rumble_run.specs.inside.Seen.{executable_of}
 use Rattle.rumble_run.proofs.Answered.{of_front_opened, refused_opened}
 use Rattle.rumble_run.proofs.Endings.{of_refusal, query_refused, query_ended}
 use Rattle.rumble_run.proofs.decide.of_query.Goals as goal
 
 pub returns-in-Ok-clause-value : goal.returns-in-Ok-clause-value
 returns-in-Ok-clause-value g c =
-    query_ended _ c.args.task c.args.query.now c.without_mark-text.result.now (plain_of c.in-Ok.tree) (g.I.Inputs.world c.args.inputs.now)
-    c.without_mark-text.ensures.rest c.in-Ok.ensures c.of_tree-ending.ensures.value
+    query_ended _ c.args.task c.args.query.now c.without_mark-text.result.now (executable_of c.in-Ok.compiled) (g.I.Inputs.world c.args.inputs.now)
+    c.without_mark-text.ensures.rest c.in-Ok.ensures c.of_executable-ending.ensures.value
 
 pub returns-in_ok-tells_refusal-in-Err-Refused-clause-value : goal.returns-in_ok-tells_refusal-in-Err-Refused-clause-value
 returns-in_ok-tells_refusal-in-Err-Refused-clause-value g c =
@@ -22,8 +22,8 @@ returns-in_ok-tells_refusal-in-Err-Refused-clause-shape g c =
 
 pub returns-in-Ok-clause-opened : goal.returns-in-Ok-clause-opened
 returns-in-Ok-clause-opened g c =
-    of_front_opened c.of_tree-ending.result (g.I.Inputs.world c.args.inputs.now) c.args.task c.args.query.now (Ok (plain_of c.in-Ok.tree)) (g.I.Inputs.counts c.args.inputs.now)
-    (g.I.Inputs.counts c.of_tree-ending.new.inputs) c.in-Ok.ensures c.of_tree-ending.ensures.opened
+    of_front_opened c.of_executable-ending.result (g.I.Inputs.world c.args.inputs.now) c.args.task c.args.query.now (Ok (executable_of c.in-Ok.compiled)) (g.I.Inputs.counts c.args.inputs.now)
+    (g.I.Inputs.counts c.of_executable-ending.new.inputs) c.in-Ok.ensures c.of_executable-ending.ensures.opened
 
 pub returns-in_ok-tells_refusal-in-Err-Refused-clause-opened : goal.returns-in_ok-tells_refusal-in-Err-Refused-clause-opened
 returns-in_ok-tells_refusal-in-Err-Refused-clause-opened g c =

@@ -5,4 +5,4 @@ use Rattle.rumble_run.proofs.print.print_items.Given as goal
 
 abbrev pub invariant-loop-item : goal.invariant-loop-item
 invariant-loop-item l =
-    l.out.items ++ output_of (datums (drop l.item-index l.items)) ≡ l.fn.out.items ++ output_of (datums l.items)
+    l.out.items ++ output_of (datums (drop l.item-index l.items)) ≡ output_of (datums l.items)
