@@ -1,4 +1,4 @@
-#!/usr/bin/env python3
+#!/usr/bin/env -S python3 -B
 """Writes crates/query_rows/proofs/Rows/*.antt from crates/query_rows/rows.txt: queries, the inputs that
 they read, and what they come to, each to be found by computing the definitions.
 
@@ -15,9 +15,16 @@ A row of rows.txt is some lines, with an empty line behind them:
 
 `# TITLE` begins a new file, named by the title's first word. Expected values come from the language's
 rules, never from running the program. Run it again after a change of the table: tools/query_rows.py
+
+tools/query_rows.py --run PROGRAM writes nothing: it runs each row with a built program, and
+compares what that prints.
 """
 import json
 import re
+import subprocess
+import sys
+import tempfile
+from collections import Counter
 from pathlib import Path
 
 from layout import without_unused
@@ -36,6 +43,8 @@ COMPUTED = [
 
 def unfoldable_names():
     files = [f for crate in COMPUTED for f in sorted((TOP / crate / "specs").rglob("*.antt"))]
+    # how an evaluator sees its own values is no part of what a query means
+    files = [f for f in files if not f.is_relative_to(TOP / "query_meaning" / "specs" / "inside")]
     files += [TOP / "query_grammar" / "specs" / name for name in ("Classes.antt", "Grammar.antt")]
     for f in files:
         names = re.findall(r"^ *unfoldable pub (\S+) :", f.read_text(), re.M)
@@ -63,6 +72,15 @@ TOKEN = re.compile(
     r"|(?P<dec>\d*\.\d+)|(?P<int>\d+)|(?P<name>[A-Za-z_][\w-]*)|(?P<text>\"(?:[^\"\\]|\\.)*\")"
     r"|(?P<mark>\{\||\|\}|\|\||:=|!=|<=|>=|[()\[\]{},;:.!|+*=<>#?-])"
 )
+CODE = re.compile(r"[A-Z]{4}\d{4}")
+FAULT = re.compile(CODE.pattern + " at @")
+
+# of each code that a faulty line may have, such a line
+FAULTY_LINES = {
+    "JNDY0021": "{",
+    "PJDY0002": "[" * 129 + "]" * 129,
+    "PJDY0004": "1" + "0" * 20,
+}
 
 
 def codes(text):
@@ -130,14 +148,19 @@ def decimal(text):
     return "\0%d" % (sign * (int(front) * 10**6 + int((back + "000000")[:6])))
 
 
+def texts(line):
+    """The texts of values or of items that stand in a line."""
+    return [text for text in line.split(" / ") if text]
+
+
 def entry(line):
     name, _, rest = line.partition(" ")
     if rest == "missing":
         held = "None"
-    elif re.fullmatch(r"[A-Z]{4}\d{4}", rest):
+    elif CODE.fullmatch(rest):
         held = "Some (Err c.%s)" % rest
     else:
-        values = [json.loads(v, parse_float=decimal) for v in rest.split(" / ") if v]
+        values = [json.loads(v, parse_float=decimal) for v in texts(rest)]
         held = "Some (Ok (%s))" % listed(map(datum, values))
     return "(%s, %s)" % (codes(name), held)
 
@@ -161,10 +184,10 @@ def read_table(text):
 
 def expected(query, gives):
     """What is told of the outcome: each item's text with a stroke behind it, or the fault."""
-    if re.match(r"[A-Z]{4}\d{4} at @", gives):
+    if FAULT.match(gives):
         return codes(gives.replace("@", str(query.index("@") + 1)))
     assert "@" not in query, query
-    text = "".join(item + "/" for item in gives.split(" / ")) if gives else ""
+    text = "".join(item + "/" for item in texts(gives))
     return codes("".join(map(chr, text.encode())))
 
 
@@ -196,8 +219,12 @@ def file_of(title, rows):
     return word, "\n".join(lines)
 
 
-def main():
-    files = read_table((ROWS / "rows.txt").read_text())
+def written_table():
+    return read_table((ROWS / "rows.txt").read_text())
+
+
+def write_proofs():
+    files = written_table()
     folder = ROWS / "proofs" / "Rows"
     folder.mkdir(exist_ok=True)
     for old in folder.glob("*.antt"):
@@ -208,6 +235,81 @@ def main():
     (ROWS / "proofs" / "Rows.antt").write_text(
         "-- Written by tools/query_rows.py.\n" + "".join("mod %s\n" % title.split()[0] for title, _ in files)
     )
+
+
+# ---- rows that a built program runs
+
+
+def answer(query, gives):
+    """What is printed for a row, on standard output and on standard error, and the exit status."""
+    if FAULT.match(gives):
+        place = "1:%d" % (query.index("@") + 1)
+        return "", "raised %s\n" % gives.replace("@", place), 1
+    return "".join(item + "\n" for item in texts(gives)), "", 0
+
+
+def unmade(inputs):
+    """The codes of inputs of which no line is known that has them."""
+    rests = [line.partition(" ")[2] for line in inputs]
+    return [rest for rest in rests if CODE.fullmatch(rest) and rest not in FAULTY_LINES]
+
+
+def file_text(rest):
+    """A line for each value of an input, or the line that has its code."""
+    lines = [FAULTY_LINES[rest]] if rest in FAULTY_LINES else texts(rest)
+    return "".join(line + "\n" for line in lines)
+
+
+def files_of(query, inputs):
+    """The files of a row by their names: its query, and each input that is not missing."""
+    files = {"q": query.replace("@", "")}
+    for line in inputs:
+        name, _, rest = line.partition(" ")
+        if rest != "missing":
+            files[name] = file_text(rest)
+    return files
+
+
+def printed(program, files):
+    """What the program prints and its exit status, where there are these files and no others."""
+    with tempfile.TemporaryDirectory() as folder:
+        for name, text in files.items():
+            (Path(folder) / name).write_bytes(text.encode())
+        words = [program, "run", "q"]
+        run = subprocess.run(words, cwd=folder, stdin=subprocess.DEVNULL, capture_output=True)
+    out, err = (text.decode(errors="replace") for text in (run.stdout, run.stderr))
+    return out, err, run.returncode
+
+
+def run_row(program, name, query, inputs, gives):
+    """How a row ended: passed, failed or skipped. Says why, unless it passed."""
+    for code in unmade(inputs):
+        print("row %s: skipped, as no line is known that has %s" % (name, code))
+        return "skipped"
+    wanted, got = answer(query, gives), printed(program, files_of(query, inputs))
+    if got == wanted:
+        return "passed"
+    print("row %s: %s" % (name, query))
+    print("  wanted: %r %r status %d" % wanted)
+    print("  got:    %r %r status %d" % got)
+    return "failed"
+
+
+def run_rows(program):
+    """The exit status: 0 where some rows passed and none failed."""
+    rows = [row for _, rows in written_table() for row in rows]
+    ended = Counter(run_row(program, *row) for row in rows)
+    print("rows: %(passed)d passed, %(failed)d failed, %(skipped)d skipped" % ended)
+    return 0 if ended["passed"] and not ended["failed"] else 1
+
+
+def main():
+    if not sys.argv[1:]:
+        write_proofs()
+    elif sys.argv[1] == "--run" and len(sys.argv) == 3:
+        sys.exit(run_rows(Path(sys.argv[2]).resolve()))
+    else:
+        sys.exit("usage: tools/query_rows.py [--run PROGRAM]")
 
 
 main()
