@@ -1,11 +1,8 @@
 -- Groups of the code, and where they stand.
-use Rattle.std.proofs.Common.{◌≡◌, ℕ, zero, suc, ◌+◌, ◌<◌, ◌&&◌, Bool, true, false, if◌then◌else◌, cond, List, [], ◌∷◌, ◌++◌, length, slice_get, Option, Some, None, Result, Ok, Err, refl, sym, ap, ◌∙◌, subst, arith}
-use Rattle.std.specs.List.{slice_set}
-use Rattle.std.specs.Result.{OnOk, OnErr}
-use Rattle.std.specs.BTreeMap.{BTreeMap, get, is_at, Updates, IsUnchanged}
-use Rattle.std.specs.Map.{lookup}
-use Rattle.item_tree.specs.declared.fault.NoMemory.{NoMemory}
-use Rattle.std.specs.Ordering.{is_eq}
+use Rattle.std.proofs.Common.{◌≡◌, ℕ, zero, suc, ◌+◌, ◌<◌, ◌≤◌, ◌&&◌, ◌||◌, Bool, true, false, not, if◌then◌else◌, cond, List, [], ◌∷◌, ◌++◌, length, slice_get, Option, Some, None, Result, Ok, Err, refl, sym, ap, ◌∙◌, subst, arith}
+use Rattle.std.specs.List.{slice_set, list_any, position_or_len}
+use Rattle.std.specs.Result.{OnOk}
+use Rattle.indexmap.specs.IndexSet.{insert_key}
 use Rattle.std.specs.Option.{option_eq}
 use Rattle.std.specs.declared.cmp.Ordering.{Ordering}
 use Rattle.std.proofs.lemmas.List.{length-map}
@@ -17,15 +14,13 @@ use Rattle.tuple_rows.specs.Tuples.{Row, sequence, sequences}
 use Rattle.tuple_rows.specs.Keys.{KeyList, Keyed, AllKeys, key_list}
 use Rattle.group_table.specs.declared.group.Group.{Group}
 use Rattle.group_table.specs.declared.group_key.GroupKey.{GroupKey}
-use Rattle.group_table.specs.contracts.group_key.GroupKeyOrd.TheImpl as key_ord
-use Rattle.group_table.specs.contracts.group_key.GroupKeyOrd.TheImpl.Laws.{matches_eq-law}
+use Rattle.group_table.specs.contracts.group_key.GroupKeyPartialEq.TheImpl as key_eq
 use Rattle.item_tree.specs.contracts.key.KeyPartialEq.TheImpl as part_eq
 use Rattle.group_table.specs.Groups.{same_lists}
 use Rattle.group_table.specs.inside.Joins.{join_rows, put, IsGroup, AllGroups, IsKept}
 use Rattle.group_table.specs.inside.KeyParts.{IsPartFor, AreParts, IsKeyFor}
-use Rattle.group_table.specs.inside.Places.{one_further, place_among, IsPlaced}
+use Rattle.group_table.specs.inside.Places.{place_among, ArePlaces}
 use Rattle.group_table.specs.inside.Views.{entry_of, keyed_list, shapes, joined_at, RowsAreWide}
-use Rattle.group_table.proofs.SameKeys.{lists_symm, lists_congr}
 
 pub on_ok : {T E : Type 0} {P Q : Type 0} (r : Result T E) → (P → Q) → OnOk r P → OnOk r Q
 on_ok (Ok x) f h = f h
@@ -61,16 +56,17 @@ group_shaped (f ∷ gs) zero g new h k e =
 group_shaped (f ∷ gs) (suc i) g new h k e = ap (λ (ps : List (KeyList × ℕ)). (key_list f.keys, length (sequences f.row)) ∷ ps) (group_shaped gs i g new h k e)
 
 -- what depends on shapes alone
-pub place_shaped : (ks : KeyList) (gs hs : List Keyed) → shapes hs ≡ shapes gs → place_among ks hs ≡ place_among ks gs
-place_shaped ks [] [] e = refl
-place_shaped ks [] (h ∷ hs) e = absurd cc
-place_shaped ks (g ∷ gs) [] e = absurd cc
-place_shaped ks (g ∷ gs) (h ∷ hs) e =
+pub places_shaped : (ps : List GroupKey) (gs hs : List Keyed) → shapes hs ≡ shapes gs → ArePlaces ps gs → ArePlaces ps hs
+places_shaped [] [] [] e a = tt
+places_shaped (p ∷ ps) [] [] e a = absurd a
+places_shaped ps [] (h ∷ hs) e a = absurd cc
+places_shaped ps (g ∷ gs) [] e a = absurd cc
+places_shaped [] (g ∷ gs) (h ∷ hs) e a = absurd a
+places_shaped (p ∷ ps) (g ∷ gs) (h ∷ hs) e a =
     let pair : (h.0, length h.1) ≡ (g.0, length g.1) = cc in
     let front : h.0 ≡ g.0 = ap (λ (q : KeyList × ℕ). q.0) pair in
     let back : shapes hs ≡ shapes gs = cc in
-    ap (λ (k : KeyList). if same_lists ks k then Some 0 else one_further (place_among ks hs)) front
-    ∙ ap (λ (o : Option ℕ). if same_lists ks g.0 then Some 0 else one_further o) (place_shaped ks gs hs back)
+    (subst (IsKeyFor p) (sym front) (a.0), places_shaped ps gs hs back (a.1))
 
 pub groups_shaped : (width count : ℕ) (gs hs : List Keyed) → shapes hs ≡ shapes gs → AllGroups width count gs → AllGroups width count hs
 groups_shaped width count [] [] e a = tt
@@ -93,62 +89,53 @@ groups_pushed width count [] g a is = (is, tt)
 groups_pushed width count (h ∷ gs) g a is = (a.0, groups_pushed width count gs g (a.1) is)
 
 -- places
-further_within : (o : Option ℕ) (i n : ℕ) → one_further o ≡ Some i → ((j : ℕ) → o ≡ Some j → j < n) → i < n + 1
-further_within None i n h rest = absurd cc
-further_within (Some j) i n h rest = let e : suc j ≡ i = cc in let lt : j < n = rest j refl in omega arith
+put_case : (b : Bool) (joined : List ℕ) (p g : Keyed) (gs : List Keyed) → (if b then 0 else suc (place_among p.0 gs)) < suc (length gs)
+    → (place_among p.0 gs < length gs → put joined gs p ≡ joined_at joined (place_among p.0 gs) p.1 gs)
+    → (if b then (g.0, join_rows joined g.1 p.1) ∷ gs else g ∷ put joined gs p)
+    ≡ joined_at joined (if b then 0 else suc (place_among p.0 gs)) p.1 (g ∷ gs)
+put_case true joined p g gs lt rest = refl
+put_case false joined p g gs lt rest = ap (λ (us : List Keyed). g ∷ us) (rest (omega arith))
 
-within_case : (b : Bool) (ks : KeyList) (gs : List Keyed) (i n : ℕ) → n ≡ length gs + 1
-    → (if b then Some 0 else one_further (place_among ks gs)) ≡ Some i → ((j : ℕ) → place_among ks gs ≡ Some j → j < length gs) → i < n
-within_case true ks gs i n e h rest = let z : 0 ≡ i = cc in omega arith
-within_case false ks gs i n e h rest = let lt : i < length gs + 1 = further_within (place_among ks gs) i (length gs) h rest in omega arith
+pub put_at : (joined : List ℕ) (gs : List Keyed) (p : Keyed) → place_among p.0 gs < length gs
+    → put joined gs p ≡ joined_at joined (place_among p.0 gs) p.1 gs
+put_at joined [] p lt = absurd (omega arith)
+put_at joined (g ∷ gs) p lt = put_case (same_lists p.0 g.0) joined p g gs lt (put_at joined gs p)
 
-pub place_within : (ks : KeyList) (gs : List Keyed) (i : ℕ) → place_among ks gs ≡ Some i → i < length gs
-place_within ks [] i h = absurd cc
-place_within ks (g ∷ gs) i h = within_case (same_lists ks g.0) ks gs i (suc (length gs)) (omega arith) h (place_within ks gs)
-
-further_is : (o : Option ℕ) (i : ℕ) → one_further o ≡ Some (suc i) → o ≡ Some i
-further_is None i h = absurd cc
-further_is (Some j) i h = cc
-
-further_zero : (o : Option ℕ) → one_further o ≡ Some zero → ⊥
-further_zero None h = absurd cc
-further_zero (Some j) h = absurd cc
-
-further_none : (o : Option ℕ) → one_further o ≡ None → o ≡ None
-further_none None h = refl
-further_none (Some j) h = absurd cc
-
-put_case : (b : Bool) (joined : List ℕ) (p g : Keyed) (gs : List Keyed) (i : ℕ)
-    → (if b then Some 0 else one_further (place_among p.0 gs)) ≡ Some i
-    → ((j : ℕ) → place_among p.0 gs ≡ Some j → put joined gs p ≡ joined_at joined j p.1 gs)
-    → (if b then (g.0, join_rows joined g.1 p.1) ∷ gs else g ∷ put joined gs p) ≡ joined_at joined i p.1 (g ∷ gs)
-put_case true joined p g gs zero h rest = refl
-put_case true joined p g gs (suc i) h rest = absurd cc
-put_case false joined p g gs zero h rest = absurd (further_zero (place_among p.0 gs) h)
-put_case false joined p g gs (suc i) h rest = ap (λ (us : List Keyed). g ∷ us) (rest i (further_is (place_among p.0 gs) i h))
-
-pub put_at : (joined : List ℕ) (gs : List Keyed) (p : Keyed) (i : ℕ) → place_among p.0 gs ≡ Some i
-    → put joined gs p ≡ joined_at joined i p.1 gs
-put_at joined [] p i h = absurd cc
-put_at joined (g ∷ gs) p i h = put_case (same_lists p.0 g.0) joined p g gs i h (put_at joined gs p)
-
-new_case : (b : Bool) (joined : List ℕ) (p g : Keyed) (gs : List Keyed)
-    → (if b then Some 0 else one_further (place_among p.0 gs)) ≡ None
-    → (place_among p.0 gs ≡ None → put joined gs p ≡ gs ++ p ∷ [])
+new_case : (b : Bool) (joined : List ℕ) (p g : Keyed) (gs : List Keyed) → suc (length gs) ≤ (if b then 0 else suc (place_among p.0 gs))
+    → (length gs ≤ place_among p.0 gs → put joined gs p ≡ gs ++ p ∷ [])
     → (if b then (g.0, join_rows joined g.1 p.1) ∷ gs else g ∷ put joined gs p) ≡ g ∷ (gs ++ p ∷ [])
-new_case true joined p g gs h rest = absurd cc
-new_case false joined p g gs h rest = ap (λ (us : List Keyed). g ∷ us) (rest (further_none (place_among p.0 gs) h))
+new_case true joined p g gs le rest = absurd (omega arith)
+new_case false joined p g gs le rest = ap (λ (us : List Keyed). g ∷ us) (rest (omega arith))
 
-pub put_new : (joined : List ℕ) (gs : List Keyed) (p : Keyed) → place_among p.0 gs ≡ None → put joined gs p ≡ gs ++ p ∷ []
-put_new joined [] p h = refl
-put_new joined (g ∷ gs) p h = new_case (same_lists p.0 g.0) joined p g gs h (put_new joined gs p)
+pub put_new : (joined : List ℕ) (gs : List Keyed) (p : Keyed) → length gs ≤ place_among p.0 gs → put joined gs p ≡ gs ++ p ∷ []
+put_new joined [] p le = refl
+put_new joined (g ∷ gs) p le = new_case (same_lists p.0 g.0) joined p g gs le (put_new joined gs p)
 
 -- sameness of what key lists are compared by
 abbrev eq_of_keys : Key → Key → Bool
 eq_of_keys = (part_eq.ghosts).eq
 
-abbrev pub cmp_of : GroupKey → GroupKey → Ordering
-cmp_of = (key_ord.ghosts).cmp
+abbrev pub eq_of : GroupKey → GroupKey → Bool
+eq_of = (key_eq.ghosts).eq
+
+turned : (b : Bool) (n : ℕ) → cond (not b) (1 + n) 0 ≡ (if b then 0 else suc n)
+turned true n = refl
+turned false n = omega arith
+
+found_case : (b x : Bool) (n m : ℕ) → (if b then 0 else suc n) < suc m → (n < m → x ≡ true) → (b || x) ≡ true
+found_case true x n m lt rest = refl
+found_case false x n m lt rest = rest (omega arith)
+
+absent_case : (b x : Bool) (n m : ℕ) → suc m ≤ (if b then 0 else suc n) → (m ≤ n → x ≡ false) → (b || x) ≡ false
+absent_case true x n m le rest = absurd (omega arith)
+absent_case false x n m le rest = rest (omega arith)
+
+places_more : (k : GroupKey) (ps : List GroupKey) (gs : List Keyed) (p : Keyed) → IsKeyFor k p.0 → ArePlaces ps gs
+    → ArePlaces (ps ++ k ∷ []) (gs ++ p ∷ [])
+places_more k [] [] p is a = (is, tt)
+places_more k [] (g ∷ gs) p is a = absurd a
+places_more k (q ∷ ps) [] p is a = absurd a
+places_more k (q ∷ ps) (g ∷ gs) p is a = (a.0, places_more k ps gs p is (a.1))
 
 module _ (cmp : Key → Key → Ordering) (agree : KeysAgree eq_of_keys cmp) where
   part_same : (p q : Option Key) (k l : Option _) → IsPartFor p k → IsPartFor q l → option_eq eq_of_keys p q ≡ same_keys k l
@@ -182,77 +169,84 @@ module _ (cmp : Key → Key → Ordering) (agree : KeysAgree eq_of_keys cmp) whe
   key_eq_same k l (c ∷ ks) (d ∷ ls) a b e =
       λ i. part_same k.first l.first c d (a.0) (b.0) i && parts_same k.others.items l.others.items ks ls (a.1) (b.1) i
 
-  pub key_same : (k l : GroupKey) (ks ls : KeyList) → IsKeyFor k ks → IsKeyFor l ls → length ks ≡ length ls
-      → is_eq (cmp_of k l) ≡ same_lists ks ls
-  key_same k l ks ls a b e = sym (matches_eq-law k l) ∙ key_eq_same k l ks ls a b e
+  key_same : (k l : GroupKey) (ks ls : KeyList) → IsKeyFor k ks → IsKeyFor l ls → length ks ≡ length ls
+      → eq_of k l ≡ same_lists ks ls
+  key_same k l ks ls a b e = key_eq_same k l ks ls a b e
 
-place_alike : (ks ls : KeyList) (gs : List Keyed) → same_lists ks ls ≡ true → place_among ks gs ≡ place_among ls gs
-place_alike ks ls [] h = refl
-place_alike ks ls (g ∷ gs) h =
-    λ i. if lists_congr ks ls g.0 h i then Some 0 else one_further (place_alike ks ls gs h i)
+  -- the key of a group is found at its place, and a new key behind the last
+  pub place_is : (k : GroupKey) (ks : KeyList) (width count : ℕ) (ps : List GroupKey) (gs : List Keyed) → IsKeyFor k ks → length ks ≡ count
+      → AllGroups width count gs → ArePlaces ps gs → position_or_len (eq_of k) ps ≡ place_among ks gs
+  place_is k ks width count [] [] is l a b = refl
+  place_is k ks width count [] (g ∷ gs) is l a b = absurd b
+  place_is k ks width count (p ∷ ps) [] is l a b = absurd b
+  place_is k ks width count (p ∷ ps) (g ∷ gs) is l a b =
+      (λ i. cond (not (key_same k p ks g.0 is (b.0) (l ∙ sym (a.0.0)) i)) (1 + place_is k ks width count ps gs is l (a.1) (b.1) i) 0)
+      ∙ turned (same_lists ks g.0) (place_among ks gs)
 
-end_here_case : (b : Bool) (ls : KeyList) (gs : List Keyed) (p : Keyed) → (if b then Some 0 else one_further (place_among ls gs)) ≡ None
-    → (place_among ls gs ≡ None → place_among ls (gs ++ p ∷ []) ≡ Some (length gs))
-    → (if b then Some 0 else one_further (place_among ls (gs ++ p ∷ []))) ≡ Some (suc (length gs))
-end_here_case true ls gs p h rest = absurd cc
-end_here_case false ls gs p h rest = ap one_further (rest (further_none (place_among ls gs) h))
+  found : (k : GroupKey) (ks : KeyList) (width count : ℕ) (ps : List GroupKey) (gs : List Keyed) → IsKeyFor k ks → length ks ≡ count
+      → AllGroups width count gs → ArePlaces ps gs → place_among ks gs < length gs → list_any (eq_of k) ps ≡ true
+  found k ks width count [] [] is l a b lt = absurd (omega arith)
+  found k ks width count [] (g ∷ gs) is l a b lt = absurd b
+  found k ks width count (p ∷ ps) [] is l a b lt = absurd b
+  found k ks width count (p ∷ ps) (g ∷ gs) is l a b lt =
+      ap (λ (x : Bool). x || list_any (eq_of k) ps) (key_same k p ks g.0 is (b.0) (l ∙ sym (a.0.0)))
+      ∙ found_case (same_lists ks g.0) (list_any (eq_of k) ps) (place_among ks gs) (length gs) lt (found k ks width count ps gs is l (a.1) (b.1))
 
-end_here : (ls : KeyList) (gs : List Keyed) (p : Keyed) → same_lists ls p.0 ≡ true → place_among ls gs ≡ None
-    → place_among ls (gs ++ p ∷ []) ≡ Some (length gs)
-end_here ls [] p e h = ap (λ (b : Bool). if b then Some 0 else None) e
-end_here ls (g ∷ gs) p e h = end_here_case (same_lists ls g.0) ls gs p h (end_here ls gs p e)
+  absent : (k : GroupKey) (ks : KeyList) (width count : ℕ) (ps : List GroupKey) (gs : List Keyed) → IsKeyFor k ks → length ks ≡ count
+      → AllGroups width count gs → ArePlaces ps gs → length gs ≤ place_among ks gs → list_any (eq_of k) ps ≡ false
+  absent k ks width count [] [] is l a b le = refl
+  absent k ks width count [] (g ∷ gs) is l a b le = absurd b
+  absent k ks width count (p ∷ ps) [] is l a b le = absurd b
+  absent k ks width count (p ∷ ps) (g ∷ gs) is l a b le =
+      ap (λ (x : Bool). x || list_any (eq_of k) ps) (key_same k p ks g.0 is (b.0) (l ∙ sym (a.0.0)))
+      ∙ absent_case (same_lists ks g.0) (list_any (eq_of k) ps) (place_among ks gs) (length gs) le (absent k ks width count ps gs is l (a.1) (b.1))
 
-end_elsewhere : (ls : KeyList) (gs : List Keyed) (p : Keyed) → same_lists ls p.0 ≡ false
-    → place_among ls (gs ++ p ∷ []) ≡ place_among ls gs
-end_elsewhere ls [] p e = ap (λ (b : Bool). if b then Some 0 else None) e
-end_elsewhere ls (g ∷ gs) p e =
-    ap (λ (o : Option ℕ). if same_lists ls g.0 then Some 0 else one_further o) (end_elsewhere ls gs p e)
+  -- the places after one more row of a group that is there
+  pub places_joined : (k : GroupKey) (ks : KeyList) (width count : ℕ) (ps new : List GroupKey) (gs hs : List Keyed) → IsKeyFor k ks
+      → length ks ≡ count → AllGroups width count gs → ArePlaces ps gs → place_among ks gs < length gs → new ≡ insert_key eq_of ps k
+      → shapes hs ≡ shapes gs → ArePlaces new hs
+  places_joined k ks width count ps new gs hs is l a b lt e shaped =
+      subst (λ (qs : List GroupKey). ArePlaces qs hs)
+      (sym (e ∙ ap (λ (x : Bool). if x then ps else ps ++ k ∷ []) (found k ks width count ps gs is l a b lt)))
+      (places_shaped ps gs hs shaped b)
 
-place_push_case : (b : Bool) (ls : KeyList) (gs : List Keyed) (p : Keyed) → same_lists p.0 ls ≡ b → place_among p.0 gs ≡ None
-    → cond b (Some (length gs)) (place_among ls gs) ≡ place_among ls (gs ++ p ∷ [])
-place_push_case true ls gs p e h =
-    sym (end_here ls gs p (lists_symm ls p.0 ∙ e) (sym (place_alike p.0 ls gs e) ∙ h))
-place_push_case false ls gs p e h = sym (end_elsewhere ls gs p (lists_symm ls p.0 ∙ e))
+  -- and after a new group
+  pub places_pushed : (k : GroupKey) (width count : ℕ) (ps new : List GroupKey) (gs : List Keyed) (p : Keyed) → IsKeyFor k p.0
+      → length p.0 ≡ count → AllGroups width count gs → ArePlaces ps gs → length gs ≤ place_among p.0 gs → new ≡ insert_key eq_of ps k
+      → ArePlaces new (gs ++ p ∷ [])
+  places_pushed k width count ps new gs p is l a b le e =
+      subst (λ (qs : List GroupKey). ArePlaces qs (gs ++ p ∷ []))
+      (sym (e ∙ ap (λ (x : Bool). if x then ps else ps ++ k ∷ []) (absent k p.0 width count ps gs is l a b le)))
+      (places_more k ps gs p is b)
 
--- a new group has its place
-pub places_pushed : (cmp : Key → Key → Ordering) → KeysAgree eq_of_keys cmp → (m n : BTreeMap GroupKey ℕ) (k : GroupKey) (count : ℕ)
-    (gs : List Keyed) (p : Keyed) → Updates cmp_of m n k (Some (length gs)) → IsPlaced cmp_of m count gs → IsKeyFor k p.0
-    → length p.0 ≡ count → place_among p.0 gs ≡ None → IsPlaced cmp_of n count (gs ++ p ∷ [])
-places_pushed cmp agree m n k count gs p up placed is l none q ls e f =
-    up.0 q
-    ∙ ap (λ (b : Bool). cond b (Some (length gs)) (get cmp_of m q)) (key_same cmp agree k q p.0 ls is f (l ∙ sym e))
-    ∙ ap (λ (o : Option ℕ). cond (same_lists p.0 ls) (Some (length gs)) o) (placed q ls e f)
-    ∙ place_push_case (same_lists p.0 ls) ls gs p refl none
+pub place_below : (ks : KeyList) (gs rs : List Group) (at n : ℕ) → rs ≡ gs → at ≡ place_among ks (keyed_list gs) → n ≡ length rs → at < n
+    → place_among ks (keyed_list gs) < length (keyed_list gs)
+place_below ks gs rs at n same e l lt =
+    let long : length (keyed_list gs) ≡ length gs = length-map gs entry_of in
+    let alike : length rs ≡ length gs = ap length same in
+    omega arith
+
+pub place_behind : (ks : KeyList) (gs rs : List Group) (at n : ℕ) → rs ≡ gs → at ≡ place_among ks (keyed_list gs) → n ≡ length rs → n ≤ at
+    → length (keyed_list gs) ≤ place_among ks (keyed_list gs)
+place_behind ks gs rs at n same e l le =
+    let long : length (keyed_list gs) ≡ length gs = length-map gs entry_of in
+    let alike : length rs ≡ length gs = ap length same in
+    omega arith
+
+pub keyed_pushed : (gs : List Group) (g : Group) → keyed_list (gs ++ g ∷ []) ≡ keyed_list gs ++ entry_of g ∷ []
+keyed_pushed [] g = refl
+keyed_pushed (f ∷ gs) g = ap (λ (ps : List Keyed). entry_of f ∷ ps) (keyed_pushed gs g)
 
 -- the table after one more row
-pub kept_joined : (places : BTreeMap GroupKey ℕ) (width : ℕ) (keys joined : List ℕ) (gs hs : List Keyed)
-    → shapes hs ≡ shapes gs → IsKept width keys joined gs → IsPlaced cmp_of places (length keys) gs
-    → IsKept width keys joined hs × IsPlaced cmp_of places (length keys) hs
-kept_joined places width keys joined gs hs e a b = (
-  record { keys_below = a.keys_below; joined_below = a.joined_below; groups_fit = groups_shaped width (length keys) gs hs e (a.groups_fit) },
-  λ key ks l f. b key ks l f ∙ sym (place_shaped ks gs hs e),
-)
+pub kept_shaped : (width : ℕ) (keys joined : List ℕ) (gs hs : List Keyed) → shapes hs ≡ shapes gs → IsKept width keys joined gs
+    → IsKept width keys joined hs
+kept_shaped width keys joined gs hs e a =
+    record { keys_below = a.keys_below; joined_below = a.joined_below; groups_fit = groups_shaped width (length keys) gs hs e (a.groups_fit) }
 
-pub kept_pushed : (r : Result (Unit {0}) NoMemory) (cmp : Key → Key → Ordering) → KeysAgree eq_of_keys cmp
-    → (m n : BTreeMap GroupKey ℕ) (k : GroupKey) (width : ℕ) (keys joined : List ℕ) (old new : List Group) (g : Group)
-    → OnOk r (keyed_list new ≡ keyed_list old ++ entry_of g ∷ []) → OnOk r (Updates cmp_of m n k (Some (length (keyed_list old))))
-    → OnErr r (new ≡ old) → OnErr r (IsUnchanged m n) → IsKeyFor k (key_list g.keys) → IsGroup width (length keys) (entry_of g)
-    → place_among (key_list g.keys) (keyed_list old) ≡ None → IsKept width keys joined (keyed_list old)
-    → IsPlaced cmp_of m (length keys) (keyed_list old)
-    → IsKept width keys joined (keyed_list new) × IsPlaced cmp_of n (length keys) (keyed_list new)
-kept_pushed (Ok u) cmp agree m n k width keys joined old new g e up e' same is fits none a b = (
-  record {
-    keys_below = a.keys_below;
-    joined_below = a.joined_below;
-    groups_fit = subst (λ (gs : List Keyed). AllGroups width (length keys) gs) (sym e)
-        (groups_pushed width (length keys) (keyed_list old) (entry_of g) (a.groups_fit) fits);
-  },
-  subst (λ (gs : List Keyed). IsPlaced cmp_of n (length keys) gs) (sym e)
-      (places_pushed cmp agree m n k (length keys) (keyed_list old) (entry_of g) up b is (fits.0) none),
-)
-kept_pushed (Err u) cmp agree m n k width keys joined old new g e up e' same is fits none a b =
-    subst (λ (gs : List Group). IsKept width keys joined (keyed_list gs) × IsPlaced cmp_of n (length keys) (keyed_list gs)) (sym e')
-    (a, λ key ks l f. ap (λ es. lookup (is_at (cmp_of key)) es) same ∙ b key ks l f)
-
-pub place_in_groups : (ks : KeyList) (gs : List Group) (i : ℕ) → place_among ks (keyed_list gs) ≡ Some i → i < length gs
-place_in_groups ks gs i h = subst (λ (n : ℕ). i < n) (length-map gs entry_of) (place_within ks (keyed_list gs) i h)
+pub kept_pushed : (width : ℕ) (keys joined : List ℕ) (gs : List Keyed) (g : Keyed) → IsGroup width (length keys) g → IsKept width keys joined gs
+    → IsKept width keys joined (gs ++ g ∷ [])
+kept_pushed width keys joined gs g fits a = record {
+  keys_below = a.keys_below;
+  joined_below = a.joined_below;
+  groups_fit = groups_pushed width (length keys) gs g (a.groups_fit) fits;
+}

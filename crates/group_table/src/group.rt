@@ -1,15 +1,12 @@
-ghost use Rattle.std.specs.Prelude.{◌≡◌, ◌<◌, ◌++◌, ◌∷◌, [], length, map, Some, OnOk, OnErr};
+ghost use Rattle.std.specs.Prelude.{◌≡◌, ◌<◌, ◌++◌, [], length, map, OnOk};
 ghost use Rattle.std.specs.List.{slice_set};
-ghost use Rattle.std.specs.BTreeMap.{Updates, IsUnchanged};
 ghost use Rattle.tuple_rows.specs.Tuples.{sequence, sequences};
 ghost use Rattle.group_table.specs.Groups.{slot};
-ghost use Rattle.group_table.specs.inside.Views.{keyed_list, entry_of, shapes, joined_at, RowsAreWide};
+ghost use Rattle.group_table.specs.inside.Views.{keyed_list, shapes, joined_at, RowsAreWide};
 ghost use Rattle.group_table.specs.Grouping.{AllBelow};
 ghost use Rattle.group_table.specs.inside.Joins.{join_rows};
 
-use crate::group_key::GroupKey;
 use item_tree::{Item, NoMemory};
-use std::collections::BTreeMap;
 use tuple_rows::Tuple;
 
 /// A group: the keys of its first tuple, and its tuples as one row, in which the keys do not stand
@@ -79,24 +76,4 @@ pub(crate) fn join_at(
 {
     let group = &mut groups[at];
     join(joined, &mut group.row.slots, tuple.slots)
-}
-
-/// One more group, which goes last, with its place.
-pub(crate) fn push_group(
-    groups: &mut Vec<Group>,
-    places: &mut BTreeMap<GroupKey, usize>,
-    key: GroupKey,
-    group: Group,
-) -> Result<(), NoMemory>
-    ensures groups { OnOk result
-        (keyed_list groups.new.items ≡ keyed_list groups.old.items ++ entry_of group ∷ []) }
-    ensures places { OnOk result (Updates ⟦<GroupKey as Ord>⟧.cmp places.old places.new key
-        (Some (length (keyed_list groups.old.items)))) }
-    ensures groups_stay { OnErr result (groups.new.items ≡ groups.old.items) }
-    ensures places_stay { OnErr result (IsUnchanged places.old places.new) }
-{
-    groups.reserve(1)?;
-    places.insert(key, groups.len())?;
-    groups.push_reserved(group);
-    Ok(())
 }

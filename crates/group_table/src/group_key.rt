@@ -7,8 +7,8 @@ use item_tree::{Item, Key, NoMemory, key_of};
 use std::alloc::Global;
 
 /// What key lists are compared by. The first key stands here and not behind a pointer, since most
-/// groups have one key, and one comparison mostly decides.
-#[derive(Debug, Drop, PartialEq, Eq, PartialOrd, Ord)]
+/// groups have one key.
+#[derive(Debug, Drop, PartialEq, Eq, Hash)]
 pub(crate) struct GroupKey {
     pub first: Option<Key>,
     pub others: Vec<Option<Key>>,

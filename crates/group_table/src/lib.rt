@@ -5,6 +5,8 @@ mod finish;
 mod group;
 mod group_key;
 pub mod laws;
+mod places;
+mod seeded;
 mod table;
 
 pub use table::GroupTable;

@@ -1,10 +1,12 @@
 use crate::finish::rows;
-use crate::group::{Group, join_at, push_group};
+use crate::group::{Group, join_at};
 use crate::group_key::{GroupKey, group_key};
+use crate::places::place_of;
+use crate::seeded::Seeded;
+use indexmap::IndexSet;
 use item_tree::laws::keys_agree;
 use item_tree::{Item, NoMemory};
 use std::alloc::Global;
-use std::collections::BTreeMap;
 use std::marker::Model;
 use tuple_rows::{Rows, Tuple};
 
@@ -12,15 +14,16 @@ use tuple_rows::{Rows, Tuple};
 /// keeps: for each group the keys of its first tuple, and its row. The order in which the groups
 /// stand is that of their first tuples.
 ///
-/// The time to add a tuple grows with the logarithm of the number of groups, whatever the keys are.
+/// A group is found by a hash of its keys, which depends on the seed of the table. For keys that
+/// were chosen with regard to the seed, the time to add a tuple can grow with the number of groups.
 #[derive(Debug, Drop)]
 pub struct GroupTable {
     alloc: Global,
     width: usize,
     keys: Vec<u32>,
     joined: Vec<u32>,
-    // The position of the group of each key list.
-    places: BTreeMap<GroupKey, usize>,
+    // The keys of each group, at its position.
+    places: IndexSet<GroupKey, Seeded>,
     groups: Vec<Group>,
 }
 
@@ -33,7 +36,7 @@ impl Model for GroupTable {
     ghost coded = { grouping_code };
 
     ghost use Rattle.group_table.specs.inside.Views.{keyed_list};
-    ghost use Rattle.group_table.specs.inside.Places.{IsPlaced};
+    ghost use Rattle.group_table.specs.inside.Places.{ArePlaces};
     ghost use Rattle.group_table.specs.inside.Joins.{IsKept};
 
     ghost view = { λ a. record {
@@ -45,8 +48,7 @@ impl Model for GroupTable {
 
     ghost invariant = { λ a.
         IsKept a.width a.keys.items a.joined.items (keyed_list a.groups.items)
-        × IsPlaced ⟦<GroupKey as Ord>⟧.cmp a.places (length a.keys.items)
-        (keyed_list a.groups.items) };
+        × ArePlaces a.places.keys (keyed_list a.groups.items) };
 }
 
 impl GroupTable {
@@ -67,12 +69,30 @@ impl GroupTable {
             ≡ record { width = width; keys = keys.items; joined = joined.items; groups = [] } }
         ensures stands { StandsFor result [] }
     {
+        GroupTable::seeded(alloc, width, keys, joined, 0)
+    }
+
+    /// The same with this seed, on which the hashes of keys depend. Where strangers choose the keys
+    /// it is to be a number that they do not know.
+    pub fn seeded(
+        alloc: Global,
+        width: usize,
+        keys: Vec<u32>,
+        joined: Vec<u32>,
+        seed: u64,
+    ) -> GroupTable
+        requires keys { AllBelow width keys.items }
+        requires joined { AllBelow width joined.items }
+        ensures empty { result
+            ≡ record { width = width; keys = keys.items; joined = joined.items; groups = [] } }
+        ensures stands { StandsFor result [] }
+    {
         GroupTable {
             alloc,
             width,
             keys,
             joined,
-            places: BTreeMap::new(alloc),
+            places: IndexSet::with_hasher(alloc, Seeded::new(seed)),
             groups: Vec::new(alloc),
         }
     }
@@ -100,9 +120,13 @@ impl GroupTable {
     {
         keys_agree();
         let key = group_key(self.alloc, group.keys.as_slice())?;
-        match self.places.get(&key).copied() {
-            Some(at) => join_at(&mut self.groups, at, self.joined.as_slice(), group.row),
-            None => push_group(&mut self.groups, &mut self.places, key, group),
+        self.groups.reserve(1)?;
+        let at = place_of(&mut self.places, key)?;
+        if at < self.groups.len() {
+            join_at(&mut self.groups, at, self.joined.as_slice(), group.row)
+        } else {
+            self.groups.push_reserved(group);
+            Ok(())
         }
     }
 

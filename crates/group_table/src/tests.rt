@@ -69,6 +69,24 @@ fn grouped(alloc: Global, letters: &str) -> Result<GroupTable, Fail>
     Ok(table)
 }
 
+// The groups of tuples numbered from 1, whose slots 0 and 1 have the keys that the two letters of
+// each word stand for, and whose slot 2 is joined.
+fn grouped_by_two(alloc: Global, words: &str) -> Result<GroupTable, Fail> {
+    let slots = vec![in alloc; 0, 1]?;
+    let joined = vec![in alloc; 2]?;
+    let mut table = GroupTable::seeded(alloc, 3, slots, joined, 20130819);
+    let mut n = 0u8;
+    for word in words.split_whitespace() {
+        n = n.saturating_add(1);
+        let mut letters = word.chars();
+        let first = key(alloc, letters.next().unwrap_or('-'))?;
+        let second = key(alloc, letters.next().unwrap_or('-'))?;
+        let keys = vec![in alloc; first, second]?;
+        table.add(keys, tuple(alloc, n)?)?;
+    }
+    Ok(table)
+}
+
 // The rows, with `/` behind each, `|` behind each slot, a blank behind each item, and `d` behind a
 // decimal.
 fn printed(alloc: Global, rows: Rows) -> Result<String, Fail> {
@@ -115,6 +133,18 @@ fn groups_by_first_appearance(rt: HostRuntime) -> Result<(), Fail> {
         let found = printed(alloc, grouped(alloc, letters)?.into_rows()?)?;
         assert_eq!(rt; found.as_str(), want, "{letters}");
     }
+    Ok(())
+}
+
+#[test]
+fn groups_by_two_columns(rt: HostRuntime) -> Result<(), Fail> {
+    let alloc = rt.alloc();
+    let table = grouped_by_two(alloc, "is ds i- -i s- di id -d is -- n- dn")?;
+    let found = printed(alloc, table.into_rows()?)?;
+    assert_eq!(rt;
+        found.as_str(),
+        "1 |1 |1 2 9 |/1 ||3 |/|1 |4 8 |/1 ||5 |/1d |1 |6 7 |/||10 |/null ||11 |/1d |null |12 |/"
+    );
     Ok(())
 }
 

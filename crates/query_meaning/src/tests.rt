@@ -20,13 +20,15 @@ fn library(alloc: Global) -> Result<Library, Fail> {
     held.push((Str::of(alloc, "a")?, Held::Items(Sequence::of(items))))?;
     held.push((Str::of(alloc, "b")?, Held::Raised(Code::JNDY0021)))?;
     held.push((Str::of(alloc, "c")?, Held::Missing))?;
-    Ok(Library::new(held))
+    Ok(Library::seeded(held, 7))
 }
 
 #[test]
 fn inputs_are_held_by_their_names(rt: HostRuntime) -> Result<(), Fail> {
     let alloc = rt.alloc();
     let library = library(alloc)?;
+    assert_eq!(rt; library.seed(), 7);
+    assert_eq!(rt; Library::new(Vec::new(alloc)).seed(), 0);
     for (name, expected) in [("a", 2), ("b", 300), ("c", 200), ("d", 100)] {
         let name = Str::of(alloc, name)?;
         assert_eq!(rt; told(library.find(&name)), expected);

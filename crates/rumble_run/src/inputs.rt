@@ -15,14 +15,20 @@ use item_tree::{NoMemory, Str};
 use outside::Inputs;
 use query_meaning::{Held, Library, Sequence};
 use std::alloc::Global;
+use std::hash::{DefaultHasher, Hasher};
 
-// What these bytes read as, where there is such an input.
-fn held_of(alloc: Global, input: Option<Vec<u8>>) -> Result<Held, NoMemory>
+// What these bytes read as, where there is such an input. The hasher takes the bytes.
+fn held_of(
+    alloc: Global,
+    input: Option<Vec<u8>>,
+    hasher: &mut DefaultHasher,
+) -> Result<Held, NoMemory>
     ensures { IfOk result (λ h. held_read h ≡ option_map (λ v. items_of v.items) input) }
 {
     let Some(bytes) = input else {
         return Ok(Held::Missing);
     };
+    hasher.write(&bytes);
     match read_items(alloc, &bytes) {
         Ok(items) => Ok(Held::Items(Sequence::of(items))),
         Err(fault) => match fault.code() {
@@ -33,7 +39,12 @@ fn held_of(alloc: Global, input: Option<Vec<u8>>) -> Result<Held, NoMemory>
 }
 
 // Reads the input of this name.
-fn read_input<I: Inputs>(alloc: Global, inputs: &mut I, name: &Str) -> Result<(Str, Held), Stop>
+fn read_input<I: Inputs>(
+    alloc: Global,
+    inputs: &mut I,
+    name: &Str,
+    hasher: &mut DefaultHasher,
+) -> Result<(Str, Held), Stop>
     ensures world { I.world inputs.new ≡ I.world inputs.old }
     ensures held { IfOk result (λ e. IfSome (I.world inputs.old) (λ w.
         entry e ≡ read_entry w name.now)) }
@@ -43,11 +54,12 @@ fn read_input<I: Inputs>(alloc: Global, inputs: &mut I, name: &Str) -> Result<(S
 {
     let own = name.copy()?;
     let input = read_named(alloc, inputs, name.as_str())?;
-    let held = held_of(alloc, input)?;
+    let held = held_of(alloc, input, hasher)?;
     Ok((own, held))
 }
 
-/// Reads the inputs of these names in order.
+/// Reads the inputs of these names in order. The seed of the library depends on all their bytes, so
+/// whoever changes an input to slow down a table of groups changes the seed.
 pub(crate) fn read_inputs<I: Inputs>(
     alloc: Global,
     inputs: &mut I,
@@ -62,9 +74,10 @@ pub(crate) fn read_inputs<I: Inputs>(
         (I.counts inputs.new)) }
 {
     let mut held: Vec<(Str, Held)> = Vec::new(alloc);
+    let mut hasher = DefaultHasher::new();
     for name in names {
-        let one = read_input(alloc, inputs, name)?;
+        let one = read_input(alloc, inputs, name, &mut hasher)?;
         held.push(one)?;
     }
-    Ok(Library::new(held))
+    Ok(Library::seeded(held, hasher.finish()))
 }

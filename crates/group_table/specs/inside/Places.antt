@@ -1,23 +1,18 @@
 -- Where the groups of key lists stand.
-use Rattle.std.specs.Prelude.{◌≡◌, ℕ, suc, List, [], ◌∷◌, length, Option, Some, None, if◌then◌else◌}
-use Rattle.std.specs.BTreeMap.{BTreeMap, get}
-use Rattle.std.specs.declared.cmp.Ordering.{Ordering}
+use Rattle.std.specs.Prelude.{ℕ, suc, List, [], ◌∷◌, if◌then◌else◌}
 use Rattle.tuple_rows.specs.Keys.{KeyList, Keyed}
 use Rattle.group_table.specs.declared.group_key.GroupKey.{GroupKey}
 use Rattle.group_table.specs.Groups.{same_lists}
 use Rattle.group_table.specs.inside.KeyParts.{IsKeyFor}
 
-abbrev pub one_further : Option ℕ → Option ℕ
-one_further None = None
-one_further (Some i) = Some (suc i)
+-- the position of the first group with these keys, or else the one behind the last
+abbrev pub place_among : KeyList → List Keyed → ℕ
+place_among ks [] = 0
+place_among ks (g ∷ gs) = if same_lists ks g.0 then 0 else suc (place_among ks gs)
 
--- the position of the first group with these keys
-abbrev pub place_among : KeyList → List Keyed → Option ℕ
-place_among ks [] = None
-place_among ks (g ∷ gs) = if same_lists ks g.0 then Some 0 else one_further (place_among ks gs)
-
--- the map has the position of the group of each list of so many keys
-abbrev pub IsPlaced : (GroupKey → GroupKey → Ordering) → BTreeMap GroupKey ℕ → ℕ → List Keyed
-    → Type 0
-IsPlaced cmp places count gs = (key : GroupKey) (ks : KeyList) → length ks ≡ count → IsKeyFor key ks
-    → get cmp places key ≡ place_among ks gs
+-- what the keys of each group are compared by, in the order of the groups
+abbrev pub ArePlaces : List GroupKey → List Keyed → Type 0
+ArePlaces [] [] = Unit {0}
+ArePlaces [] (g ∷ gs) = ⊥
+ArePlaces (k ∷ ks) [] = ⊥
+ArePlaces (k ∷ ks) (g ∷ gs) = IsKeyFor k g.0 × ArePlaces ks gs
