@@ -1,0 +1,13 @@
+pub mod Rules
+pub mod Rows
+pub mod Steps
+pub mod Reading
+pub mod Places
+pub mod Walks
+pub mod Fitting
+pub mod Taken
+pub mod Parsing
+pub mod Marking
+pub mod Tasks
+pub mod Examples
+pub mod Spelling

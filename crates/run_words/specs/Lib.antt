@@ -1,0 +1,5 @@
+pub mod Table
+pub mod Given
+pub mod Spelled
+pub mod Asked
+pub mod inside

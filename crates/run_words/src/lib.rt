@@ -1,0 +1,18 @@
+//! The words of a command line, and the task that they ask for.
+//!
+//! The words are tested by the rules of one table, and then read by one command of `clap` for each
+//! first word, which takes every list of words that the test lets through.
+#![tactic(auto)]
+
+mod command;
+mod given;
+pub mod laws;
+mod read;
+mod table;
+mod task;
+
+pub use read::read_words;
+pub use task::{Task, WordFault};
+
+#[cfg(test)]
+mod tests;
