@@ -1,0 +1,12 @@
+mod Among
+mod Ends
+mod Fronts
+mod Kept
+mod Parts
+mod Placed
+mod Places
+mod Rows
+mod Sizes
+mod Splits
+mod Whole
+mod Windows

@@ -1,0 +1,22 @@
+//! Pieces of inputs by ranges of bytes: the lines that begin in a range, read without the rest of
+//! the input. A worker that reads one piece reads no other, and all pieces in order are the lines
+//! of the files in order.
+#![tactic(auto)]
+
+mod cut;
+mod fault;
+pub mod laws;
+mod lines;
+mod mark;
+mod part;
+mod piece;
+mod read;
+
+pub use cut::Cut;
+pub use fault::PieceFault;
+pub use lines::Line;
+pub use piece::{count_lines, piece_lines};
+pub use read::read_whole;
+
+#[cfg(test)]
+mod tests;
