@@ -1,7 +1,5 @@
-pub mod Texts
 pub mod Cutting
 pub mod ItemLists
-pub mod FileReads
 pub mod Wording
 pub mod Computing
 pub mod Fronts

@@ -13,10 +13,6 @@ use Rattle.rumble_run.specs.inside.Held.{entry, read_entry}
 use Rattle.rumble_run.specs.inside.Reads.{Leaves, files_of_name}
 
 -- what holds of a told world, from what holds of it
-pub told_from : {P Q : World → Type 0} (world : Option World) → ((w : World) → P w → Q w) → IfSome world P → IfSome world Q
-told_from None f h = tt
-told_from (Some w) f h = f w h
-
 pub told_from_two : {P Q R : World → Type 0} (world : Option World) → ((w : World) → P w → Q w → R w) → IfSome world P → IfSome world Q → IfSome world R
 told_from_two None f g h = tt
 told_from_two (Some w) f g h = f w g h

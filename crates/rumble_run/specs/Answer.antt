@@ -1,6 +1,6 @@
 -- The answer to a command line over a world of inputs: a status, with the bytes for the output
 -- and for the errors.
-use Rattle.std.specs.Prelude.{◌≡◌, ℕ, List, [], ◌∷◌, ◌++◌, Option, None, Some, IfSome, Ok, Err, codes}
+use Rattle.std.specs.Prelude.{◌≡◌, ℕ, Bool, false, List, [], ◌∷◌, ◌++◌, length, Option, None, Some, IfSome, Ok, Err, codes, if◌then◌else◌}
 use Rattle.std.specs.Fmt.{decimal}
 use Rattle.std.specs.Str.{encode_utf8_all}
 use Rattle.item_tree.specs.declared.fault.Fault.{Fault}
@@ -15,13 +15,16 @@ use Rattle.query_meaning.specs.Inputs.{InputsReadAs}
 use Rattle.query_meaning.specs.Library.{Library}
 use Rattle.query_meaning.specs.Outcome.{Outcome}
 use Rattle.query_meaning.specs.Queries.{query_value}
-use Rattle.rumble_run.specs.Command.{command_of}
+use Rattle.rumble_run.specs.Commands.{command_of}
 use Rattle.rumble_run.specs.Front.{Executable, Front, IsFront}
 use Rattle.rumble_run.specs.Place.{place_text}
+use Rattle.rumble_run.specs.Trial.{trial_query, trial_world}
 use Rattle.rumble_run.specs.declared.status.Status.{Status}
 use Rattle.rumble_run.specs.declared.status.Status.TheVariants.{Done, Raised, Refused, Usage, NoQuery}
-use Rattle.rumble_run.specs.declared.words.Task.{Task}
-use Rattle.rumble_run.specs.declared.words.Task.TheVariants.{Run, Check}
+use Rattle.rumble_run.specs.declared.command.Action.{Action}
+use Rattle.rumble_run.specs.declared.command.Action.TheVariants as action
+use Rattle.rumble_run.specs.declared.command.Command.{Command}
+use Rattle.rumble_run.specs.declared.command.Command.TheVariants.{Query, Trial}
 
 pub record Answer : Type 0 where
   pub status : Status
@@ -66,49 +69,64 @@ abbrev pub output_of : List Datum → List ℕ
 output_of [] = []
 output_of (x ∷ xs) = item_text x ++ 10 ∷ output_of xs
 
-abbrev pub prints : List Datum → Answer
-prints items = writes (output_of items)
+-- how many items were printed, and in how many bytes
+abbrev pub stats_text : ℕ → ℕ → List ℕ
+stats_text items bytes = (codes "items " ++ decimal items) ++ (codes " bytes " ++ decimal bytes)
+
+-- the items are printed, and counted where the statistics are asked for
+abbrev pub prints : Bool → List Datum → Answer
+prints stats items = record {
+  status = Done;
+  out = output_of items;
+  err = if stats then lined (stats_text (length items) (length (output_of items))) else [];
+}
 
 -- what a query's value comes to
-abbrev pub of_outcome : List ℕ → Outcome → Answer
-of_outcome text (Ok items) = prints items
-of_outcome text (Err fault) = raised text fault
+abbrev pub of_outcome : Bool → List ℕ → Outcome → Answer
+of_outcome stats text (Ok items) = prints stats items
+of_outcome stats text (Err fault) = raised text fault
 
 -- a query that is run over its inputs
-abbrev pub IsOfRun : List ℕ → World → Executable → Answer → Type 0
-IsOfRun text world query answer =
+abbrev pub IsOfRun : Bool → List ℕ → World → Executable → Answer → Type 0
+IsOfRun stats text world query answer =
     (library : Library)
     × InputsReadAs world (input_names query.trees) library
-    × (answer ≡ of_outcome text (query_value query.width query.trees library))
+    × (answer ≡ of_outcome stats text (query_value query.width query.trees library))
 
-abbrev pub IsOfExecutable : Task → List ℕ → World → Executable → Answer → Type 0
-IsOfExecutable Check text world query answer = answer ≡ accepted
-IsOfExecutable Run text world query answer = IsOfRun text world query answer
+abbrev pub IsOfExecutable : Action → List ℕ → World → Executable → Answer → Type 0
+IsOfExecutable action.Check text world query answer = answer ≡ accepted
+IsOfExecutable (action.Run stats) text world query answer = IsOfRun stats text world query answer
 
--- a query with this front: refused, or the task is done
-abbrev pub IsOfFront : Task → List ℕ → World → Front → Answer → Type 0
-IsOfFront task text world (Ok query) answer = IsOfExecutable task text world query answer
-IsOfFront task text world (Err fault) answer = answer ≡ refused text fault
+-- a query with this front: refused, or the action is done
+abbrev pub IsOfFront : Action → List ℕ → World → Front → Answer → Type 0
+IsOfFront act text world (Ok query) answer = IsOfExecutable act text world query answer
+IsOfFront act text world (Err fault) answer = answer ≡ refused text fault
 
 -- the answer to a query of these bytes
-abbrev pub IsOfQuery : Task → World → List ℕ → Answer → Type 0
-IsOfQuery task world query answer =
+abbrev pub IsOfQuery : Action → World → List ℕ → Answer → Type 0
+IsOfQuery act world query answer =
     (front : Front)
-    × IsFront query front × IsOfFront task (without_mark query) world front answer
+    × IsFront query front × IsOfFront act (without_mark query) world front answer
 
-abbrev pub IsOfFile : Task → List ℕ → World → Option (List ℕ) → Answer → Type 0
-IsOfFile task name world None answer =
+abbrev pub IsOfFile : Action → List ℕ → World → Option (List ℕ) → Answer → Type 0
+IsOfFile act name world None answer =
     answer ≡ says NoQuery (codes "no query " ++ encode_utf8_all name)
-IsOfFile task name world (Some query) answer = IsOfQuery task world query answer
+IsOfFile act name world (Some query) answer = IsOfQuery act world query answer
+
+-- a trial runs its query over its own lines, whatever inputs there are
+abbrev pub IsOfTrial : ℕ → ℕ → Answer → Type 0
+IsOfTrial number lines answer =
+    IsOfQuery (action.Run false) (trial_world number lines) trial_query answer
 
 abbrev pub usage : Answer
 usage =
     says Usage (codes "usage: rumble run QUERY | check QUERY | explain QUERY | trial NUMBER LINES")
 
-abbrev pub IsOfCommand : World → Option (Task × List ℕ) → Answer → Type 0
+abbrev pub IsOfCommand : World → Option Command → Answer → Type 0
 IsOfCommand world None answer = answer ≡ usage
-IsOfCommand world (Some command) answer =
-    IsOfFile command.0 command.1 world (file_of world command.1) answer
+IsOfCommand world (Some (Query act name)) answer =
+    IsOfFile act name world (file_of world name) answer
+IsOfCommand world (Some (Trial number lines)) answer = IsOfTrial number lines answer
 
 -- the answer to a command line over a world; by a law there is one, and only one
 unfoldable pub IsAnswer : List (List ℕ) → World → Answer → Type 0

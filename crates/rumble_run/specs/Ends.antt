@@ -1,5 +1,5 @@
 -- What a call of the program leaves, by the status that it ends with.
-use Rattle.std.specs.Prelude.{◌≡◌, ◌<◌, ◌≤◌, ◌⊎◌, ◌+◌, ◌-◌, ◌^◌, ℕ, List, [], ◌∷◌, ◌++◌, Option, Some, codes}
+use Rattle.std.specs.Prelude.{◌≡◌, ◌<◌, ◌≤◌, ◌⊎◌, ◌+◌, ◌-◌, ◌^◌, ℕ, Bool, true, false, List, [], ◌∷◌, ◌++◌, Option, None, Some, codes}
 use Rattle.std.specs.Fmt.{decimal}
 use Rattle.std.specs.Str.{encode_utf8_all}
 use Rattle.item_tree.specs.declared.code.Code.{Code}
@@ -7,10 +7,13 @@ use Rattle.item_tree.specs.declared.fault.Spot.{Spot}
 use Rattle.item_tree.specs.Codes.{code_text}
 use Rattle.outside.specs.Counted.{Rose, RoseByOne, appended, CutShort}
 use Rattle.outside.specs.Opens.{InputCounts}
-use Rattle.rumble_run.specs.Answer.{Answer, lined, spot_text, usage}
+use Rattle.rumble_run.specs.Answer.{Answer, lined, spot_text, stats_text, usage}
+use Rattle.rumble_run.specs.Commands.{wants_stats}
 use Rattle.rumble_run.specs.declared.status.Status.{Status}
-use Rattle.rumble_run.specs.declared.words.Task.{Task}
-use Rattle.rumble_run.specs.declared.words.Task.TheVariants.{Check}
+use Rattle.rumble_run.specs.declared.command.Action.{Action}
+use Rattle.rumble_run.specs.declared.command.Action.TheVariants as action
+use Rattle.rumble_run.specs.declared.command.Command.{Command}
+use Rattle.rumble_run.specs.declared.command.Command.TheVariants.{Query, Trial}
 use Rattle.rumble_run.specs.declared.status.Status.TheVariants.{Done, Raised, Refused, Usage, ReadFault, WriteFault, NoMemory, NoQuery}
 
 -- the status is the answer's; or writing its output failed, reading failed, or memory was short
@@ -50,14 +53,19 @@ TellsError text =
     × (text ≡ lined (codes "raised " ++ code_at code line column ++ spot_text spot))
 
 -- the query that is missing is the command's
-abbrev pub TellsNoQuery : Option (Task × List ℕ) → List ℕ → Type 0
+abbrev pub TellsNoQuery : Option Command → List ℕ → Type 0
 TellsNoQuery command text =
-    (task : Task) × (name : List ℕ) × (command ≡ Some (task, name))
+    (act : Action) × (name : List ℕ) × (command ≡ Some (Query act name))
     × (text ≡ lined (codes "no query " ++ encode_utf8_all name))
 
+-- the statistics where they are asked for, and else nothing
+abbrev pub TellsStats : Bool → List ℕ → Type 0
+TellsStats true text = (items : ℕ) × (bytes : ℕ) × (text ≡ lined (stats_text items bytes))
+TellsStats false text = text ≡ []
+
 -- the form of the text for the errors that a status has, by the command and whatever the world
-abbrev pub HasText : Option (Task × List ℕ) → List ℕ → Status → Type 0
-HasText command text Done = text ≡ []
+abbrev pub HasText : Option Command → List ℕ → Status → Type 0
+HasText command text Done = TellsStats (wants_stats command) text
 HasText command text Raised = TellsError text
 HasText command text Refused = TellsRefusal text
 HasText command text Usage = text ≡ usage.err
@@ -100,11 +108,6 @@ OpenedBy n ReadFault before after = OpenedAtMost n before after
 OpenedBy n NoMemory before after = OpenedAtMost n before after
 OpenedBy n _ before after = OpenedJust n before after
 
--- `check` opens no file but its query
-abbrev pub ChecksAlone : Option (Task × List ℕ) → InputCounts → InputCounts → Type 0
-ChecksAlone (Some (Check, name)) before after = OpenedAtMost 1 before after
-ChecksAlone _ before after = Unit {0}
-
 -- an open, or a call on a file, failed
 abbrev pub FaultsRose : InputCounts → InputCounts → Type 0
 FaultsRose before after = Rose before.faults after.faults
@@ -117,6 +120,12 @@ MissesRose before after = Rose before.misses after.misses
 abbrev pub LooksForNone : InputCounts → InputCounts → Type 0
 LooksForNone before after = (after.opened ≡ before.opened) × (after.misses ≡ before.misses)
 
+-- `check` opens no file but its query, and a trial looks for none
+abbrev pub ChecksAlone : Option Command → InputCounts → InputCounts → Type 0
+ChecksAlone (Some (Query action.Check name)) before after = OpenedAtMost 1 before after
+ChecksAlone (Some (Trial number lines)) before after = LooksForNone before after
+ChecksAlone _ before after = Unit {0}
+
 -- a count of faults that did not rise
 abbrev pub Calm : ℕ → ℕ → Type 0
 Calm before after = (after ≤ before) × (after < 2 ^ 64 - 1)
@@ -128,9 +137,15 @@ Completes a status = (status ≡ NoMemory) ⊎ (status ≡ a.status)
 
 -- which files were looked for: with a refusal the query's alone, which was there; with a missing
 -- query that one; without a command none
-abbrev pub OpensBy : Status → InputCounts → InputCounts → Type 0
-OpensBy Refused before after =
+abbrev pub OpensByStatus : Status → InputCounts → InputCounts → Type 0
+OpensByStatus Refused before after =
     RoseByOne before.opened after.opened × (after.misses ≡ before.misses)
-OpensBy Usage before after = LooksForNone before after
-OpensBy NoQuery before after = (after.opened ≡ before.opened) × MissesRose before after
-OpensBy _ before after = Unit {0}
+OpensByStatus Usage before after = LooksForNone before after
+OpensByStatus NoQuery before after = (after.opened ≡ before.opened) × MissesRose before after
+OpensByStatus _ before after = Unit {0}
+
+-- the same by the command: a trial looks for no file at all
+abbrev pub OpensBy : Option Command → Status → InputCounts → InputCounts → Type 0
+OpensBy (Some (Trial number lines)) status before after = LooksForNone before after
+OpensBy (Some (Query act name)) status before after = OpensByStatus status before after
+OpensBy None status before after = OpensByStatus status before after

@@ -1,4 +1,5 @@
-pub mod Command
+pub mod Commands
+pub mod Trial
 pub mod Place
 pub mod Front
 pub mod Answer

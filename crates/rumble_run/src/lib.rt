@@ -5,10 +5,11 @@
 ghost use Rattle.std.specs.Prelude.{◌≡◌, ◌≢◌, ◌≤◌, ◌<◌, ◌⊎◌, ℕ, List, None, length};
 ghost use Rattle.outside.specs.Counted.{Rose};
 ghost use Rattle.rumble_run.specs.Answer.{OfAnswer};
-ghost use Rattle.rumble_run.specs.Command.{command_of};
+ghost use Rattle.rumble_run.specs.Commands.{command_of};
 ghost use Rattle.rumble_run.specs.Ends.{StatusBy, OutBy, err_by, HasText, Wrote, Calm, Completes, FaultsRose, MissesRose, OpensBy, OpenedBy, ChecksAlone, IsBalanced, NoCountFalls};
 ghost use Rattle.rumble_run.specs.Opens.{OfOpened};
 
+mod command;
 mod decide;
 mod ending;
 mod finish;
@@ -28,7 +29,9 @@ mod status;
 mod telling;
 #[cfg(test)]
 mod tests;
-mod words;
+mod trial;
+#[cfg(test)]
+mod word_tests;
 
 use crate::decide::decide;
 use crate::finish::{finish, tell};
@@ -88,7 +91,8 @@ pub fn rumble<R: Threads + Wait + Sync, I: Inputs, O: Sink, E: Sink, G: Gate>(
     // query's, and the input of each different name of its calls of `json-lines`.
     ensures opened { OfOpened (I.world inputs.old) words.now (λ files.
         OpenedBy (length files) result (I.counts inputs.old) (I.counts inputs.new)) }
-    ensures opens { OpensBy result (I.counts inputs.old) (I.counts inputs.new) }
+    ensures opens { OpensBy (command_of words.now) result (I.counts inputs.old)
+        (I.counts inputs.new) }
     ensures alone { ChecksAlone (command_of words.now) (I.counts inputs.old)
         (I.counts inputs.new) }
     ensures closed { IsBalanced (I.counts inputs.old) (I.counts inputs.new) }

@@ -1,10 +1,10 @@
 //! Endings, by what they tell or write.
 
-ghost use Rattle.std.specs.Prelude.{◌≡◌, [], ◌++◌, IfOk, codes, string_bytes};
+ghost use Rattle.std.specs.Prelude.{◌≡◌, [], ◌++◌, IfOk, codes, string_bytes, length};
 ghost use Rattle.std.specs.Fmt.{decimal};
 ghost use Rattle.std.specs.Str.{encode_utf8_all};
 ghost use Rattle.item_tree.specs.Item.{datums};
-ghost use Rattle.rumble_run.specs.Answer.{says, writes, prints, refused, raised, fault_text, clause_text, spot_text, accepted, usage};
+ghost use Rattle.rumble_run.specs.Answer.{says, writes, prints, refused, raised, fault_text, clause_text, spot_text, accepted, usage, stats_text};
 ghost use Rattle.rumble_run.specs.inside.Seen.{answer_of};
 
 use crate::ending::Ending;
@@ -128,10 +128,31 @@ pub(crate) fn accepts(alloc: Global) -> Result<Ending, AllocError>
     Ok(writes(alloc, out))
 }
 
-/// These items are printed.
-pub(crate) fn prints(alloc: Global, items: &[Item]) -> Result<Ending, NoMemory>
-    ensures { IfOk result (λ e. answer_of e ≡ prints (datums items.now)) }
+// How many items were printed, and in how many bytes.
+fn stats_text(alloc: Global, items: usize, bytes: usize) -> Result<String, AllocError>
+    ensures { IfOk result (λ s. string_bytes s ≡ stats_text items bytes) }
+{
+    let items = numbered(alloc, "items ", items as u64)?;
+    let bytes = numbered(alloc, " bytes ", bytes as u64)?;
+    let items = items.as_str();
+    let bytes = bytes.as_str();
+    format!(in alloc; "{items}{bytes}")
+}
+
+/// These items are printed, and counted where the statistics are asked for.
+pub(crate) fn prints(alloc: Global, stats: bool, items: &[Item]) -> Result<Ending, NoMemory>
+    ensures { IfOk result (λ e. answer_of e ≡ prints stats (datums items.now)) }
 {
     let out = print_items(alloc, items)?;
-    Ok(writes(alloc, out))
+    if !stats {
+        return Ok(writes(alloc, out));
+    }
+    let text = stats_text(alloc, items.len(), out.len())?;
+    let text = text.as_str();
+    let err = format!(in alloc; "{text}\n")?;
+    Ok(Ending {
+        status: Status::Done,
+        out,
+        err,
+    })
 }

@@ -1,5 +1,5 @@
 use Rattle.rumble_run.specs.inside.Seen.{answer_of}
-use Rattle.rumble_run.proofs.Endings.{ends_status, ends_complete}
+use Rattle.rumble_run.proofs.Endings.{ends_status, ends_complete, opens_stopped}
 use Rattle.rumble_run.proofs.Answered.{told}
 use Rattle.rumble_run.proofs.rumble.Goals as goal
 
@@ -14,3 +14,9 @@ returns-in-Ok-clause-text g c = told (g.I.Inputs.world c.args.inputs.now) c.args
 
 pub returns-in-Ok-clause-completes : goal.returns-in-Ok-clause-completes
 returns-in-Ok-clause-completes g c = λ read written. told (g.I.Inputs.world c.args.inputs.now) c.args.words.now (answer_of c.in-Ok.ending) _ c.in-Ok.ensures.value (ends_complete (answer_of c.in-Ok.ending) _ _ _ written c.finish.ensures.status)
+
+pub returns-in-Err-ReadFault-clause-opens : goal.returns-in-Err-ReadFault-clause-opens
+returns-in-Err-ReadFault-clause-opens g c = opens_stopped _ _ _ _ tt c.in-Err-ReadFault.ensures.alone
+
+pub returns-in-Err-NoMemory-clause-opens : goal.returns-in-Err-NoMemory-clause-opens
+returns-in-Err-NoMemory-clause-opens g c = opens_stopped _ _ _ _ tt c.in-Err-NoMemory.ensures.alone

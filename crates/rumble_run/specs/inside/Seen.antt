@@ -1,10 +1,10 @@
 -- How contracts see an ending, and a front.
-use Rattle.std.specs.Prelude.{◌≡◌, ℕ, List, [], Option, None, Some, Result, Ok, Err, IfOk, string_bytes}
+use Rattle.std.specs.Prelude.{◌≡◌, ℕ, Bool, List, [], Option, None, Some, Result, Ok, Err, IfOk, string_bytes}
 use Rattle.outside.specs.Counted.{Rose}
 use Rattle.outside.specs.Opens.{InputCounts}
 use Rattle.query_tree.specs.Compiled.{CompiledTree, bound_trees}
 use Rattle.rumble_run.specs.Answer.{Answer}
-use Rattle.rumble_run.specs.Ends.{HasText, LooksForNone}
+use Rattle.rumble_run.specs.Ends.{HasText, LooksForNone, TellsStats}
 use Rattle.rumble_run.specs.Front.{Executable, Front}
 use Rattle.rumble_run.specs.declared.front.FrontFault.{FrontFault}
 use Rattle.rumble_run.specs.declared.front.FrontFault.TheVariants as front
@@ -12,7 +12,7 @@ use Rattle.rumble_run.specs.inside.Reads.{Leaves}
 use Rattle.rumble_run.specs.declared.status.Status.{Status}
 use Rattle.rumble_run.specs.declared.status.Stop.{Stop}
 use Rattle.rumble_run.specs.declared.status.Status.TheVariants.{Done, Raised, Refused, Usage, ReadFault, WriteFault, NoMemory}
-use Rattle.rumble_run.specs.declared.words.Task.{Task}
+use Rattle.rumble_run.specs.declared.command.Command.{Command}
 use Rattle.rumble_run.specs.declared.ending.Ending.{Ending}
 
 -- the ending as an answer
@@ -28,23 +28,24 @@ IsSilent out NoMemory = ⊥
 IsSilent out _ = out ≡ []
 
 -- usage is for words outside the table alone
-abbrev pub IsUsage : Option (Task × List ℕ) → Status → Type 0
+abbrev pub IsUsage : Option Command → Status → Type 0
 IsUsage command Usage = command ≡ None
 IsUsage command _ = Unit {0}
 
 -- an ending that was decided: its text has its status's form, only Done has output, and no fault
 -- is among them
-pub record IsShaped (command : Option (Task × List ℕ)) (a : Answer) : Type 0 where
+pub record IsShaped (command : Option Command) (a : Answer) : Type 0 where
   pub text : HasText command a.err a.status
   pub silent : IsSilent a.out a.status
   pub usage : IsUsage command a.status
 
--- what a query that was read comes to: items, or a fault or a refusal with its code
-abbrev pub IsOfStatus : List ℕ → List ℕ → Status → Type 0
-IsOfStatus out err Done = HasText None err Done
-IsOfStatus out err Raised = HasText None err Raised × (out ≡ [])
-IsOfStatus out err Refused = HasText None err Refused × (out ≡ [])
-IsOfStatus out err _ = ⊥
+-- what a query that was read comes to: items, with statistics where these are asked for, or a
+-- fault or a refusal with its code
+abbrev pub IsOfStatus : Bool → List ℕ → List ℕ → Status → Type 0
+IsOfStatus stats out err Done = TellsStats stats err
+IsOfStatus stats out err Raised = HasText None err Raised × (out ≡ [])
+IsOfStatus stats out err Refused = HasText None err Refused × (out ≡ [])
+IsOfStatus stats out err _ = ⊥
 
 -- the status that an ending comes to: its own, or that writing Done's output failed
 abbrev pub EndsAs : Status → Status → ℕ → ℕ → Type 0

@@ -1,42 +1,31 @@
-use Rattle.std.proofs.Common.{sym, ◌∙◌, ap, Some, option_map}
-use Rattle.rumble_run.proofs.Answered.{opened_none, opened_at_most, opened_missing, opened_query}
-use Rattle.rumble_run.proofs.Endings.{answer_usage, answer_missing, ended_read}
+use Rattle.std.proofs.Common.{◌∙◌, Some, sym, ap}
+use Rattle.rumble_run.proofs.Answered.{opened_none, opened_of_query, opened_of_trial}
+use Rattle.rumble_run.proofs.Endings.{answer_usage, answer_file, answer_trial}
 use Rattle.rumble_run.proofs.decide.decide.Goals as goal
 
-pub returns-in_default-clause-value : goal.returns-in_default-clause-value
-returns-in_default-clause-value g c = answer_usage _ _ _ (sym c.in_default.ensures) c.in_ok-tells_usage.ensures
+pub returns-in_ok-tells_usage-in-None-clause-value : goal.returns-in_ok-tells_usage-in-None-clause-value
+returns-in_ok-tells_usage-in-None-clause-value g c = answer_usage _ _ _ (sym c.in_ok-command_of.ensures ∙ c.in-None.is) c.in_ok-tells_usage-in-None.ensures
 
-pub returns-in_default-clause-opened : goal.returns-in_default-clause-opened
-returns-in_default-clause-opened g c = opened_none (g.I.Inputs.world c.args.inputs.now) c.args.words.now (g.I.Inputs.counts c.args.inputs.now) (sym c.in_default.ensures)
+pub returns-in_ok-tells_usage-in-None-clause-opened : goal.returns-in_ok-tells_usage-in-None-clause-opened
+returns-in_ok-tells_usage-in-None-clause-opened g c =
+    opened_none (g.I.Inputs.world c.args.inputs.now) c.args.words.now (g.I.Inputs.counts c.args.inputs.now) (sym c.in_ok-command_of.ensures ∙ c.in-None.is)
 
-pub returns-in-Err-clause-opened : goal.returns-in-Err-clause-opened
-returns-in-Err-clause-opened g c =
-    let opened = rw c.as_str.ensures.value at c.in-Err.ensures.opened in
-    opened_at_most (g.I.Inputs.world c.args.inputs.now) c.args.words.now c.in-Some.task c.in-Some.name.now (g.I.Inputs.counts c.args.inputs.now) (g.I.Inputs.counts c.read_named.new.inputs) (sym c.in-Some.ensures) opened
+pub returns-in-Some-Query-clause-value : goal.returns-in-Some-Query-clause-value
+returns-in-Some-Query-clause-value g c =
+    answer_file c.of_file.result c.args.words.now c.in-Some-Query.action c.in-Some-Query.name (g.I.Inputs.world c.args.inputs.now)
+    (sym c.in_ok-command_of.ensures ∙ c.in-Some-Query.is ∙ ap (λ x. Some x) c.in-Some-Query.field-0-is) c.of_file.ensures.value
 
-pub returns-in_ok-tells_no_query-in-Ok-None-clause-value : goal.returns-in_ok-tells_no_query-in-Ok-None-clause-value
-returns-in_ok-tells_no_query-in-Ok-None-clause-value g c =
-    let bytes = rw (c.as_str.ensures.value, c.in-Ok-None.field-0-is) at c.in-Ok-None.ensures.bytes in
-    answer_missing _ _ _ _ _ (sym c.in-Some.ensures) bytes c.in_ok-tells_no_query-in-Ok-None.ensures
+pub returns-in-Some-Query-clause-opened : goal.returns-in-Some-Query-clause-opened
+returns-in-Some-Query-clause-opened g c =
+    opened_of_query c.of_file.result (g.I.Inputs.world c.args.inputs.now) c.args.words.now c.in-Some-Query.action c.in-Some-Query.name (g.I.Inputs.counts c.args.inputs.now)
+    (g.I.Inputs.counts c.of_file.new.inputs) (sym c.in_ok-command_of.ensures ∙ c.in-Some-Query.is ∙ ap (λ x. Some x) c.in-Some-Query.field-0-is) c.of_file.ensures.opened
 
-pub returns-in_ok-tells_no_query-in-Ok-None-clause-opened : goal.returns-in_ok-tells_no_query-in-Ok-None-clause-opened
-returns-in_ok-tells_no_query-in-Ok-None-clause-opened g c =
-    let bytes = rw (c.as_str.ensures.value, c.in-Ok-None.field-0-is) at c.in-Ok-None.ensures.bytes in
-    let opened = rw c.as_str.ensures.value at c.in-Ok-None.ensures.opened in
-    opened_missing (g.I.Inputs.world c.args.inputs.now) c.args.words.now c.in-Some.task c.in-Some.name.now (g.I.Inputs.counts c.args.inputs.now) (g.I.Inputs.counts c.read_named.new.inputs) (sym c.in-Some.ensures) bytes opened
+pub returns-in-Some-Trial-clause-value : goal.returns-in-Some-Trial-clause-value
+returns-in-Some-Trial-clause-value g c =
+    answer_trial c.of_trial.result c.args.words.now c.in-Some-Trial.number c.in-Some-Trial.lines (g.I.Inputs.world c.args.inputs.now)
+    (sym c.in_ok-command_of.ensures ∙ c.in-Some-Trial.is ∙ ap (λ x. Some x) c.in-Some-Trial.field-0-is) c.of_trial.ensures.value
 
-pub returns-in-Ok-Some-clause-value : goal.returns-in-Ok-Some-clause-value
-returns-in-Ok-Some-clause-value g c =
-    let bytes = rw c.as_str.ensures.value at c.in-Ok-Some.ensures.bytes in
-    let is = ap (option_map (λ v. v.items)) c.in-Ok-Some.field-0-is ∙ ap (λ t. Some t) (sym c.deref.ensures.value) in
-    ended_read c.of_query.result c.args.words.now c.in-Some.task c.in-Some.name.now c.deref.result.now (option_map (λ v. v.items) c.in-Ok-Some.field-0) (g.I.Inputs.world c.args.inputs.now)
-    (g.I.Inputs.world c.read_named.new.inputs) (sym c.in-Some.ensures) bytes is c.in-Ok-Some.ensures.world c.of_query.ensures.value
-
-pub returns-in-Ok-Some-clause-opened : goal.returns-in-Ok-Some-clause-opened
-returns-in-Ok-Some-clause-opened g c =
-    let is = ap (option_map (λ v. v.items)) c.in-Ok-Some.field-0-is ∙ ap (λ t. Some t) (sym c.deref.ensures.value) in
-    let bytes = rw (c.as_str.ensures.value, is) at c.in-Ok-Some.ensures.bytes in
-    let opened = rw c.as_str.ensures.value at c.in-Ok-Some.ensures.opened in
-    let behind = rw c.in-Ok-Some.ensures.world at c.of_query.ensures.opened in
-    opened_query c.of_query.result (g.I.Inputs.world c.args.inputs.now) c.args.words.now c.in-Some.task c.in-Some.name.now c.deref.result.now (g.I.Inputs.counts c.args.inputs.now)
-    (g.I.Inputs.counts c.read_named.new.inputs) (g.I.Inputs.counts c.of_query.new.inputs) (sym c.in-Some.ensures) c.of_query.ensures.counts.leaves.rises bytes opened behind
+pub returns-in-Some-Trial-clause-opened : goal.returns-in-Some-Trial-clause-opened
+returns-in-Some-Trial-clause-opened g c =
+    opened_of_trial c.of_trial.result (g.I.Inputs.world c.args.inputs.now) c.args.words.now c.in-Some-Trial.number c.in-Some-Trial.lines (g.I.Inputs.counts c.args.inputs.now)
+    (sym c.in_ok-command_of.ensures ∙ c.in-Some-Trial.is ∙ ap (λ x. Some x) c.in-Some-Trial.field-0-is)

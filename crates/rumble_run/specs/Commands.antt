@@ -1,0 +1,30 @@
+-- What a command line asks for.
+use Rattle.std.specs.Prelude.{ℕ, Bool, false, List, map, Option, None, Some, option_and_then}
+use Rattle.std.specs.Str.{encode_utf8_all}
+use Rattle.run_words.specs.Asked.{asked}
+use Rattle.run_words.specs.declared.task.Task.{Task}
+use Rattle.run_words.specs.declared.task.Task.TheVariants as task
+use Rattle.rumble_run.specs.declared.command.Action.{Action}
+use Rattle.rumble_run.specs.declared.command.Action.TheVariants as action
+use Rattle.rumble_run.specs.declared.command.Command.{Command}
+use Rattle.rumble_run.specs.declared.command.Command.TheVariants.{Query, Trial}
+
+-- nothing is explained yet, and the other options change nothing
+abbrev pub command_for : Task → Option Command
+command_for (task.Run query workers size local stats) = Some (Query (action.Run stats) query)
+command_for (task.Check query) = Some (Query action.Check query)
+command_for (task.Explain query) = None
+command_for (task.Trial number lines workers size) = Some (Trial number lines)
+
+-- what the words ask for
+abbrev pub command_of : List (List ℕ) → Option Command
+command_of words = option_and_then command_for (asked (map encode_utf8_all words))
+
+-- whether the statistics are asked for
+abbrev pub stats_of : Action → Bool
+stats_of (action.Run stats) = stats
+stats_of action.Check = false
+
+abbrev pub wants_stats : Option Command → Bool
+wants_stats (Some (Query act name)) = stats_of act
+wants_stats _ = false

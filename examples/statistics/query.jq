@@ -1,0 +1,1 @@
+json-lines("places.jsonl")
