@@ -1,5 +1,5 @@
 -- Keys and the atomics that they stand for.
-use Rattle.std.proofs.Common.{◌≡◌, Bool, Option, Some, None, unwrap_or, refl, sym, ap, ◌∙◌}
+use Rattle.std.proofs.Common.{◌≡◌, Bool, Some, unwrap_or, refl, sym, ap, ◌∙◌}
 use Rattle.std.specs.Cmp.Lexicographic.{slice_cmp}
 use Rattle.std.specs.Ordering.{nat_cmp, int_cmp, bool_cmp, is_eq}
 use Rattle.std.specs.declared.cmp.Ordering.{Ordering}
@@ -9,9 +9,8 @@ use Rattle.item_tree.specs.declared.key.Key.TheVariants.{Null, Boolean, Number, 
 use Rattle.item_tree.specs.contracts.key.KeyPartialEq.TheImpl as key_eq
 use Rattle.item_tree.specs.contracts.key.KeyOrd.TheImpl as key_ord
 use Rattle.item_tree.specs.contracts.key.KeyOrd.TheImpl.Laws.{matches_eq-law}
-use Rattle.item_tree.specs.Compare.{Atom, nothing, truth, number, string, day, moment, atom, order, order_if, compare_atoms, is_equal, same_keys}
+use Rattle.item_tree.specs.Compare.{Atom, nothing, truth, number, string, day, moment, order, order_if, is_equal}
 use Rattle.item_tree.specs.Dates.{date_cmp, date_time_cmp}
-use Rattle.item_tree.specs.Datum.{Datum}
 use Rattle.item_tree.specs.Keys.{atom_of, total_order, rank, KeysAgree}
 
 abbrev pub eq_of : Key → Key → Bool

@@ -1,5 +1,5 @@
 -- One more pair put among the pairs of an object. These lemmas are meant for other crates too.
-use Rattle.std.proofs.Common.{◌≡◌, ◌≢◌, ℕ, zero, suc, Bool, true, false, cond, List, [], ◌∷◌, ◌++◌, get_or, refl, sym, ap, subst, ◌∙◌, arith, Option, Some, None, option_map}
+use Rattle.std.proofs.Common.{is_some, ◌≡◌, ◌≢◌, ℕ, zero, suc, Bool, true, false, cond, List, [], ◌∷◌, ◌++◌, get_or, refl, sym, ap, subst, ◌∙◌, arith, Option, Some, None, option_map}
 use Rattle.std.proofs.Math.ListN.{set}
 use Rattle.std.proofs.lemmas.Bool.{cond_both, both_ways}
 use Rattle.std.proofs.lemmas.Slice.Eq.{bytes_eq-Decides}
@@ -7,7 +7,7 @@ use Rattle.std.specs.Str.{bytes_eq}
 use Rattle.item_tree.specs.declared.item.Item.{Item}
 use Rattle.item_tree.specs.Datum.{Datum, NoneHas, KeysDiffer}
 use Rattle.item_tree.specs.Item.{datum, pair_datums}
-use Rattle.item_tree.specs.Lookup.{place_of, put, Index, Indexes, ArePlaces, IsIndexed, IndexesMore}
+use Rattle.item_tree.specs.Lookup.{place_of, put, Index, Indexes, IsIndexed, IndexesMore}
 use Rattle.item_tree.proofs.PairLists.{Pair}
 
 none_put : (j k : List ℕ) (x : Datum) (ps : List (List ℕ × Datum)) → j ≢ k → NoneHas j ps → NoneHas j (put k x ps)
@@ -59,6 +59,11 @@ kept_index o k x ps i e h = λ m is q. h m is q ∙ sym (place_kept q k x ps i e
 -- and the index stays right
 pub indexed_put : (o : Option Index) (k : List ℕ) (x : Datum) (ps : List (List ℕ × Datum)) (i : ℕ) → Some i ≡ place_of k ps → IsIndexed o ps → IsIndexed o (put k x ps)
 indexed_put o k x ps i e h = (keys_put k x ps h.0, kept_index o k x ps i e h.1)
+
+-- no index stays none
+pub no_index : (o : Option Index) → is_some o ≡ false → (k : List ℕ) (ps : List (List ℕ × Datum)) → IndexesMore o k ps
+no_index None e k ps = λ v m f. absurd (cc)
+no_index (Some m) e k ps = absurd (cc)
 
 pub indexed_more : (o : Option Index) (k : List ℕ) (x : Datum) (ps : List (List ℕ × Datum)) → place_of k ps ≡ None → KeysDiffer ps → IndexesMore o k ps → IsIndexed o (ps ++ (k, x) ∷ [])
 indexed_more o k x ps e d m = (subst KeysDiffer (sym (put_last k x ps e)) (keys_put k x ps d), m x)

@@ -5,7 +5,7 @@ use denote.Param.Weighed.{most}
 use Rattle.item_tree.specs.declared.item.Item.{Item}
 use Rattle.item_tree.specs.declared.item.Item.TheVariants.{Null, Bool, Int, Dec, Text, Date, DateTime, Array, Object}
 use Rattle.item_tree.specs.declared.item.Items.TheDeep.{deep-Item}
-use Rattle.item_tree.specs.declared.item.Items.TheShapes.{weighed-Pairs-pairs-at-2}
+use Rattle.item_tree.specs.declared.item.Items.TheShapes.{weighed-Shared-pairs-at-2}
 use Rattle.item_tree.specs.Datum.{depth, array_of_list, object_of_pairs}
 use Rattle.item_tree.specs.Item.{datum, datums, pair_datums}
 
@@ -25,7 +25,7 @@ items_fall [] = omega arith
 items_fall (x ∷ xs) = omega (arith, items_fall xs, deep_le x)
 
 pub pairs_fall : (ps : List (List ℕ × Item))
-    → most (weighed-Pairs-pairs-at-2.weight Item deep-Item) ps ≤ depth
+    → most (weighed-Shared-pairs-at-2.weight Item deep-Item) ps ≤ depth
     (object_of_pairs (pair_datums ps))
 pairs_fall [] = omega arith
 pairs_fall (p ∷ ps) = omega (arith, pairs_fall ps, deep_le p.1)

@@ -1,5 +1,5 @@
 -- What atomics are compared by.
-use Rattle.std.specs.Prelude.{◌≡◌, ℕ, Bool, Option, Some, unwrap_or}
+use Rattle.std.specs.Prelude.{◌≡◌, ℕ, Bool, Some, unwrap_or}
 use Rattle.std.specs.Ordering.{nat_cmp}
 use Rattle.std.specs.declared.cmp.Ordering.{Ordering}
 use Rattle.item_tree.specs.declared.key.Key.{Key}

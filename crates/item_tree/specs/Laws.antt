@@ -5,7 +5,7 @@ use Rattle.std.specs.declared.cmp.Ordering.TheVariants.{Less, Equal}
 use Rattle.item_tree.specs.Dates.{Date, IsDate, date_cmp, first_of_1970, day_number}
 use Rattle.item_tree.specs.declared.functions.FnId.{FnId}
 use Rattle.item_tree.specs.Functions.{name_of, takes_arity, function_named}
-use Rattle.item_tree.specs.Datum.{Datum, null, boolean, integer, decimal, text, date, date_time, array, object, values, array_of_list, object_of_pairs, depth, Sound, AllSound, IsAtomic, is_null}
+use Rattle.item_tree.specs.Datum.{Datum, null, values, array_of_list, object_of_pairs, depth, Sound, AllSound, IsAtomic, is_null}
 use Rattle.item_tree.specs.declared.class.Class.{Class}
 use Rattle.item_tree.specs.Classes.{class_of}
 use Rattle.item_tree.specs.Compare.{atom, compare_atoms, is_equal, same_keys, equal, equal_lists}

@@ -4,3 +4,4 @@ pub mod Written
 pub mod StrBytes
 pub mod DateOrder
 pub mod SameValues
+pub mod Words

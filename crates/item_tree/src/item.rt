@@ -68,10 +68,17 @@ impl Model for Items {
 #[cycle(item)]
 #[derive(Debug, Drop)]
 pub struct Pairs {
-    pairs: Arc<Vec<(Str, Item)>, Global>,
+    shared: Arc<Shared, Global>,
+    depth: u8,
+}
+
+// What the copies of an object share.
+#[cycle(item)]
+#[derive(Debug, Drop)]
+struct Shared {
+    pairs: Vec<(Str, Item)>,
     // The position of each key, where there are many.
     places: Option<Arc<BTreeMap<Str, usize>, Global>>,
-    depth: u8,
 }
 
 impl Model for Pairs {
@@ -88,18 +95,18 @@ impl Model for Pairs {
 
     ghost use Rattle.item_tree.specs.Item.{pair_datums};
 
-    ghost view = { λ a. pair_datums (arc_value a.pairs).items };
+    ghost view = { λ a. pair_datums (arc_value a.shared).pairs.items };
 
     ghost invariant = { λ a.
-        IsObjectKept a.depth (option_map arc_value a.places)
-        (pair_datums (arc_value a.pairs).items) };
+        IsObjectKept a.depth (option_map arc_value (arc_value a.shared).places)
+        (pair_datums (arc_value a.shared).pairs.items) };
 
     ghost size = { λ ps. depth_of (object_of_pairs ps) };
 
     ghost use Rattle.std.proofs.Common.{arith};
     ghost use Rattle.item_tree.specs.Falls.{pairs_fall};
 
-    ghost size_decreases = { λ a h. omega (arith, pairs_fall (arc_value a.pairs).items) };
+    ghost size_decreases = { λ a h. omega (arith, pairs_fall (arc_value a.shared).pairs.items) };
 }
 
 impl Items {
@@ -135,7 +142,7 @@ impl Pairs {
         ensures value { pair_datums result.now ≡ self.now }
         ensures sound { Sound (object_of_pairs self.now) }
     {
-        self.pairs.as_slice()
+        self.shared.pairs.as_slice()
     }
 
     /// The value at this key. The time grows with the logarithm of the number of pairs, whatever
@@ -153,8 +160,8 @@ impl Pairs {
     fn place(&self, key: &Str) -> Option<usize>
         ensures { result ≡ place_of key.now self.now }
     {
-        match &self.places {
-            None => place_among(self.pairs.as_slice(), key),
+        match &self.shared.places {
+            None => place_among(self.as_slice(), key),
             Some(places) => places.get(key).copied(),
         }
     }
@@ -163,12 +170,14 @@ impl Pairs {
     pub fn into_vec(self) -> Result<Vec<(Str, Item)>, NoMemory>
         ensures { IfOk result (λ v. pair_datums v.items ≡ self) }
     {
-        let Pairs {
-            pairs,
-            places: _,
-            depth: _,
-        } = self;
-        Ok(Arc::unwrap_or_clone(pairs)?)
+        let Pairs { shared, depth: _ } = self;
+        match Arc::try_unwrap(shared) {
+            Ok(shared) => {
+                let Shared { pairs, places: _ } = shared;
+                Ok(pairs)
+            }
+            Err(shared) => Ok(shared.pairs.clone()?),
+        }
     }
 }
 

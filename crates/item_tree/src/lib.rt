@@ -18,6 +18,7 @@ mod same;
 mod str_bytes;
 mod text;
 mod truth;
+mod wide;
 
 pub use atom_text::text_of;
 pub use class::Class;

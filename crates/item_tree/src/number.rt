@@ -2,12 +2,13 @@ ghost use Rattle.std.specs.Prelude.{◌≡◌};
 ghost use Rattle.item_tree.specs.Compare.{whole_units};
 ghost use Rattle.item_tree.specs.Datum.{IsWhole, IsUnits};
 
+use crate::wide::Wide;
 use std::marker::Model;
 
 /// An integer: a whole number n with |n| < 10^20.
 #[derive(Clone, Copy, Debug, PartialEq, Eq)]
 pub struct Whole {
-    n: i128,
+    n: Wide,
 }
 
 impl Model for Whole {
@@ -30,7 +31,7 @@ impl Whole {
         requires { IsWhole n }
         ensures { result ≡ n }
     {
-        Whole { n }
+        Whole { n: Wide::new(n) }
     }
 
     /// The whole number.
@@ -38,7 +39,7 @@ impl Whole {
         ensures value { result ≡ self.now }
         ensures within { IsWhole self.now }
     {
-        self.n
+        self.n.get()
     }
 
     /// The number in units of 10^-6.
@@ -52,7 +53,7 @@ impl Whole {
 /// A decimal: a whole number m of units of 10^-6, with |m| < 10^26.
 #[derive(Clone, Copy, Debug, PartialEq, Eq)]
 pub struct Units {
-    m: i128,
+    m: Wide,
 }
 
 impl Model for Units {
@@ -75,7 +76,7 @@ impl Units {
         requires { IsUnits m }
         ensures { result ≡ m }
     {
-        Units { m }
+        Units { m: Wide::new(m) }
     }
 
     /// The number of units of 10^-6.
@@ -83,6 +84,6 @@ impl Units {
         ensures value { result ≡ self.now }
         ensures within { IsUnits self.now }
     {
-        self.m
+        self.m.get()
     }
 }

@@ -19,6 +19,7 @@ pub(crate) enum StrBytes {
 }
 
 // A text of a few bytes.
+#[inline(always)]
 fn short(text: &str) -> StrBytes
     requires { length text.now ≤ 14 }
     ensures bytes { bytes_of result ≡ text.now }
@@ -30,6 +31,7 @@ fn short(text: &str) -> StrBytes
 }
 
 impl StrBytes {
+    #[inline(always)]
     pub(crate) fn of(alloc: Global, text: &str) -> Result<StrBytes, AllocError>
         ensures { IfOk result (λ h. (bytes_of h ≡ text.now) × IsHeld h) }
     {

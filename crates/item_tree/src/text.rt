@@ -31,6 +31,7 @@ impl Model for Str {
 
 impl Str {
     /// The string of these characters.
+    #[inline(always)]
     pub fn of(alloc: Global, text: &str) -> Result<Str, NoMemory>
         ensures { IfOk result (λ s. s ≡ chars text.now) }
     {

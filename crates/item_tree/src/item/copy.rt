@@ -59,14 +59,9 @@ impl Clone for Pairs {
     ghost is_clone = { λ a b. b ≡ a };
 
     fn clone(&self) -> Result<Pairs, AllocError> {
-        let pairs = Arc::try_clone(&self.pairs)?;
-        let places = match &self.places {
-            None => None,
-            Some(places) => Some(Arc::try_clone(places)?),
-        };
+        let shared = Arc::try_clone(&self.shared)?;
         Ok(Pairs {
-            pairs,
-            places,
+            shared,
             depth: self.depth,
         })
     }

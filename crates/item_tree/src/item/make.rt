@@ -6,7 +6,7 @@ ghost use Rattle.item_tree.specs.Lookup.{IsIndexed};
 ghost use Rattle.item_tree.specs.Made.{MakesArray, MakesObject, MakesDistinct};
 
 use super::pair_list::PairList;
-use super::{Item, Items, Pairs};
+use super::{Item, Items, Pairs, Shared};
 use crate::{MakeFault, NoMemory, Str};
 use std::alloc::Global;
 use std::collections::BTreeMap;
@@ -61,12 +61,8 @@ fn object_with(
         return Err(MakeFault::TooDeep);
     }
     let places = shared_index(alloc, places)?;
-    let pairs = Arc::new(alloc, pairs)?;
-    Ok(Item::Object(Pairs {
-        pairs,
-        places,
-        depth,
-    }))
+    let shared = Arc::new(alloc, Shared { pairs, places })?;
+    Ok(Item::Object(Pairs { shared, depth }))
 }
 
 // The same index, to be shared by the copies of an object.

@@ -1,6 +1,6 @@
 //! Pairs from which an object is made.
 
-ghost use Rattle.std.specs.Prelude.{◌≡◌, ◌<◌, ◌++◌, ◌∷◌, [], None, OnOk, OnErr, option_map, length};
+ghost use Rattle.std.specs.Prelude.{◌≡◌, ◌<◌, ◌++◌, ◌∷◌, [], None, IfOk, OnOk, OnErr, option_map, length};
 ghost use Rattle.item_tree.specs.Datum.{KeysDiffer};
 ghost use Rattle.item_tree.specs.Item.{datum, pair_datums};
 ghost use Rattle.item_tree.specs.Lookup.{place_of, lookup, put, PutsAt};
@@ -88,7 +88,28 @@ impl PairList {
         self.pairs.as_slice()
     }
 
+    /// All the pairs, as a list of their own without spare room. None are left, and their room is
+    /// kept. Where memory is short the pairs stay as they are.
+    pub fn take(&mut self) -> Result<PairList, NoMemory>
+        ensures ok { OnOk result (self.new ≡ []) }
+        ensures list { IfOk result (λ l. l ≡ self.old) }
+        ensures err { OnErr result (self.new ≡ self.old) }
+    {
+        let pairs = self.pairs.split_off(0)?;
+        let places = self.places.take();
+        Ok(PairList { pairs, places })
+    }
+
+    /// No pairs are left, and their room is kept.
+    pub fn clear(&mut self)
+        ensures { self.new ≡ [] }
+    {
+        self.pairs.clear();
+        self.places = None;
+    }
+
     // The position of the pair with this key.
+    #[inline]
     fn place(&self, key: &Str) -> Option<usize>
         ensures { result ≡ place_of key.now self.now }
     {
@@ -110,6 +131,7 @@ impl PairList {
 
     /// One more pair: a key that is there keeps its place and takes the value, and a new key goes
     /// last. Where memory is short the pairs stay as they are.
+    #[inline]
     pub fn put(&mut self, alloc: Global, key: Str, value: Item) -> Result<(), NoMemory>
         ensures ok { OnOk result (self.new ≡ put key (datum value) self.old) }
         ensures err { OnErr result (self.new ≡ self.old) }
@@ -124,7 +146,21 @@ impl PairList {
     }
 
     // One more pair, whose key is new.
+    #[inline]
     fn push(&mut self, alloc: Global, key: Str, value: Item) -> Result<(), NoMemory>
+        requires { place_of key self.old ≡ None }
+        ensures ok { OnOk result (self.new ≡ self.old ++ (key, datum value) ∷ []) }
+        ensures err { OnErr result (self.new ≡ self.old) }
+    {
+        if self.places.is_none() && self.pairs.len() < FEW {
+            self.pairs.push((key, value))?;
+            return Ok(());
+        }
+        self.push_indexed(alloc, key, value)
+    }
+
+    // The same, where the index may grow.
+    fn push_indexed(&mut self, alloc: Global, key: Str, value: Item) -> Result<(), NoMemory>
         requires { place_of key self.old ≡ None }
         ensures ok { OnOk result (self.new ≡ self.old ++ (key, datum value) ∷ []) }
         ensures err { OnErr result (self.new ≡ self.old) }

@@ -1,4 +1,4 @@
-use Rattle.std.proofs.Common.{◌≡◌, ◌+◌, ◌-◌, ◌++◌, arith, rules, append_assoc, length-set}
+use Rattle.std.proofs.Common.{◌≡◌, ◌+◌, ◌-◌, arith, rules, append_assoc}
 use Rattle.std.proofs.lemmas.Fmt.{decimal_step_wide}
 use Rattle.std.proofs.lemmas.List.{drop-set}
 use Rattle.item_tree.proofs.DecimalDigits.{length_whole, length_front, length_step}

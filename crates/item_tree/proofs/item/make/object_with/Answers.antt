@@ -1,4 +1,4 @@
-use Rattle.std.proofs.Common.{◌≡◌, ap, arith, sym, subst}
+use Rattle.std.proofs.Common.{arith, sym, subst}
 use Rattle.std.specs.Arc.{arc_value}
 use Rattle.std.specs.Prelude.{option_map}
 use Rattle.item_tree.specs.Lookup.{IsObjectKept}
@@ -17,6 +17,5 @@ invariant_of-result c =
     let v = rw c.as_slice.ensures.value at c.object_depth-depth.ensures.value in
     let s = rw c.as_slice.ensures.value at c.object_depth-depth.ensures.sound in
     let n = c.object_depth-depth.result in
-    let e : (arc_value c.in_ok-pairs.pairs).items ≡ c.args.pairs.items = ap (λ w. w.items) c.in_ok-pairs.ensures.ok in
     let made = subst (λ o. IsObjectKept n o (pair_datums c.args.pairs.items)) (sym c.in_ok-places.ensures) (v, object_sound _ c.requires.0 s (omega arith), c.requires.1) in
-    subst (λ ys. IsObjectKept n (option_map arc_value c.in_ok-places.places) (pair_datums ys)) (sym e) made
+    subst (λ w. IsObjectKept n (option_map arc_value w.places) (pair_datums w.pairs.items)) (sym c.in_ok-shared.ensures.ok) made
