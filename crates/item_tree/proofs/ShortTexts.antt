@@ -1,17 +1,19 @@
 -- Texts of at most fourteen bytes, with zeros behind them.
-use Rattle.std.proofs.Common.{◌≡◌, ℕ, zero, suc, ◌+◌, ◌-◌, ◌<◌, ◌==◌, ◌&&◌, Bool, true, List, [], ◌∷◌, ◌++◌, length, get_or, take, drop, replicate, sym, ap, subst, ◌∙◌, arith, length-take, length-drop, w64}
+use Rattle.std.proofs.Common.{◌≡◌, ℕ, zero, suc, ◌+◌, ◌-◌, ◌<◌, ◌≤◌, ⊎_elim, set, ◌==◌, ◌&&◌, Bool, true, List, [], ◌∷◌, ◌++◌, length, get_or, take, drop, replicate, sym, ap, subst, ◌∙◌, arith, length-take, length-drop, w64}
 use Rattle.std.specs.Int.{from_le_bytes, to_le_bytes}
-use Rattle.std.specs.Str.{bytes_eq, chars, IsUtf8}
+use Rattle.std.specs.Str.{bytes_eq, chars, IsUtf8, IsAscii}
 use Rattle.std.proofs.Math.Utf8.{encodes}
+use Rattle.std.proofs.lemmas.Bool.{cases_eq}
 use Rattle.std.proofs.lemmas.Bool.Decides.{nat_tests, same_from_decides}
-use Rattle.std.proofs.lemmas.List.{take-append-drop, drop-drop, get_or-drop}
+use Rattle.std.proofs.lemmas.List.{take-append-drop, drop-drop, get_or-drop, get_or-take, get_or-replicate, get_or-set_other, ext_get_or, length-replicate}
+use Rattle.std.proofs.lemmas.Grind.{get_or-set_at}
 use Rattle.std.proofs.lemmas.Nat.{le_bytes_8}
 use Rattle.std.proofs.lemmas.Slice.Eq.{bytes_eq-Decides}
-use Rattle.std.proofs.lemmas.Str.{encodes-chars, IsUtf8-string_bytes}
+use Rattle.std.proofs.lemmas.Str.{encodes-chars, IsUtf8-string_bytes, IsUtf8-from_ascii}
 use Rattle.std.specs.Arc.{arc_value}
 use Rattle.item_tree.specs.declared.str_bytes.StrBytes.{StrBytes}
 use Rattle.item_tree.specs.declared.str_bytes.StrBytes.TheVariants.{Short, Shared}
-use Rattle.item_tree.specs.inside.StrBytes.{IsShort, bytes_of, IsHeld}
+use Rattle.item_tree.specs.inside.StrBytes.{IsShort, front_byte, IsFront, bytes_of, IsHeld}
 use Rattle.item_tree.proofs.Members.{both}
 
 -- what two words, of the first eight bytes and of the last eight, tell of the bytes
@@ -98,3 +100,34 @@ same_characters a b p q =
 pub is_text : (h : StrBytes) → IsHeld h → IsUtf8 (bytes_of h)
 is_text (Short n bytes) s = s.text
 is_text (Shared text) s = IsUtf8-string_bytes (arc_value text)
+
+-- a front of ASCII with zeros behind it is held as a short text
+pub front_held : (n : ℕ) (bytes front : List ℕ) → n ≤ 14 → 16 ≤ length bytes → length front ≡ 14
+    → IsFront n bytes front → IsAscii (take n bytes) → (take n front ≡ take n bytes) × IsShort n front
+front_held n bytes front few room len kept ascii =
+    (same, record { few = few; whole = len; text = subst IsUtf8 (sym same) (IsUtf8-from_ascii _ ascii); zeros = zeros })
+  where
+    at : (i : ℕ) → i < n → get_or (take n front) i 0 ≡ get_or (take n bytes) i 0
+    at i p = get_or-take n front i 0 p ∙ kept i (omega (arith, p, few, len)) ∙ grind (arith, nat_tests, p, get_or-take n bytes i 0 p)
+
+    same : take n front ≡ take n bytes
+    same = ext_get_or 0 (take n front) (take n bytes)
+        (omega (arith, length-take n front, length-take n bytes, few, room, len))
+        (λ i p. at i (omega (arith, length-take n front, p)))
+
+    behind : (i : ℕ) → i < 14 - n → get_or (drop n front) i 0 ≡ get_or (replicate (14 - n) 0) i 0
+    behind i p = get_or-drop n front i 0 ∙ kept (n + i) (omega (arith, p, len)) ∙ grind (arith, nat_tests, p, get_or-replicate (14 - n) i zero zero p)
+
+    zeros : drop n front ≡ replicate (14 - n) 0
+    zeros = ext_get_or 0 (drop n front) (replicate (14 - n) 0)
+        (omega (arith, length-drop n front, length-replicate (14 - n) zero, len))
+        (λ i p. behind i (omega (arith, length-drop n front, p, len)))
+
+-- one more byte of a front
+pub front_longer : (n i : ℕ) (bytes kept : List ℕ) (v : ℕ) → i < length kept → v ≡ front_byte n bytes i
+    → ((k : ℕ) → k < i → get_or kept k 0 ≡ front_byte n bytes k)
+    → (k : ℕ) → k < i + 1 → get_or (set kept i v) k 0 ≡ front_byte n bytes k
+front_longer n i bytes kept v inside e before k p = ⊎_elim
+    (λ same. get_or-set_at kept i k v 0 same inside ∙ e ∙ ap (front_byte n bytes) (sym same))
+    (λ other. get_or-set_other kept i k v 0 other ∙ before k (omega (arith, p, other)))
+    (cases_eq k i)

@@ -1,8 +1,8 @@
-ghost use Rattle.std.specs.Prelude.{◌≡◌, ◌+◌, ◌≤◌, length, take, drop, IfOk};
+ghost use Rattle.std.specs.Prelude.{◌≡◌, ◌+◌, ◌<◌, ◌≤◌, length, take, drop, IfOk};
 ghost use Rattle.std.specs.Int.{w64, from_le_bytes};
-ghost use Rattle.std.specs.Str.{bytes_eq};
+ghost use Rattle.std.specs.Str.{bytes_eq, IsAscii};
 ghost use Rattle.std.specs.String.{string_bytes};
-ghost use Rattle.item_tree.specs.inside.StrBytes.{bytes_of, IsHeld};
+ghost use Rattle.item_tree.specs.inside.StrBytes.{bytes_of, IsHeld, front_byte as front_byte_of, IsFront};
 
 use std::alloc::{AllocError, Global};
 use std::str;
@@ -30,7 +30,42 @@ fn short(text: &str) -> StrBytes
     StrBytes::Short(text.len() as u8, bytes)
 }
 
+// A byte of the front, or zero behind it.
+#[inline(always)]
+fn front_byte(bytes: &[u8], len: usize, i: usize) -> u8
+    requires { i < length bytes.now }
+    ensures { result ≡ front_byte_of len bytes.now i }
+{
+    if i < len { bytes[i] } else { 0 }
+}
+
+// So many bytes of the front, and zeros behind them: as each byte is chosen alone, all are at once.
+#[inline(always)]
+fn front_bytes(bytes: &[u8], len: usize) -> [u8; SHORT]
+    requires { 16 ≤ length bytes.now }
+    ensures { IsFront len bytes.now result }
+{
+    let mut kept = [0u8; 16];
+    for i in 0..16 {
+        kept[i] = front_byte(bytes, len, i);
+    }
+    let mut front = [0u8; SHORT];
+    front.copy_from_slice(&kept[..SHORT]);
+    front
+}
+
 impl StrBytes {
+    #[inline(always)]
+    pub(crate) fn of_front(bytes: &[u8], len: usize) -> StrBytes
+        requires few { len ≤ 14 }
+        requires room { 16 ≤ length bytes.now }
+        requires ascii { IsAscii (take len bytes.now) }
+        ensures bytes { bytes_of result ≡ take len bytes.now }
+        ensures sound { IsHeld result }
+    {
+        StrBytes::Short(len as u8, front_bytes(bytes, len))
+    }
+
     #[inline(always)]
     pub(crate) fn of(alloc: Global, text: &str) -> Result<StrBytes, AllocError>
         ensures { IfOk result (λ h. (bytes_of h ≡ text.now) × IsHeld h) }

@@ -1,7 +1,7 @@
-ghost use Rattle.std.specs.Prelude.{◌≡◌, IfOk, true};
+ghost use Rattle.std.specs.Prelude.{◌≡◌, ◌≤◌, IfOk, true, length, take};
 ghost use Rattle.std.specs.Ordering.{nat_cmp};
 ghost use Rattle.std.specs.Cmp.Lexicographic.{slice_cmp};
-ghost use Rattle.std.specs.Str.{chars, encode_utf8_all, all_scalars};
+ghost use Rattle.std.specs.Str.{chars, encode_utf8_all, all_scalars, IsAscii};
 ghost use Rattle.std.specs.String.{string_bytes};
 
 use crate::NoMemory;
@@ -37,6 +37,21 @@ impl Str {
     {
         let text = StrBytes::of(alloc, text)?;
         Ok(Str { text })
+    }
+
+    /// The string of so many characters at the front of some bytes, where all of them are ASCII and
+    /// there are at most 14. It takes no memory, and no branch on how many there are, for which 16
+    /// bytes must be there.
+    #[inline(always)]
+    pub fn of_front(bytes: &[u8], len: usize) -> Str
+        requires few { len ≤ 14 }
+        requires room { 16 ≤ length bytes.now }
+        requires ascii { IsAscii (take len bytes.now) }
+        ensures { result ≡ chars (take len bytes.now) }
+    {
+        Str {
+            text: StrBytes::of_front(bytes, len),
+        }
     }
 
     /// The string of these characters, without a second copy of them.

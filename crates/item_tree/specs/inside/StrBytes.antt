@@ -1,5 +1,5 @@
 -- How a string holds its bytes.
-use Rattle.std.specs.Prelude.{◌≡◌, ℕ, ◌-◌, ◌<◌, ◌≤◌, List, length, take, drop, replicate}
+use Rattle.std.specs.Prelude.{◌≡◌, ℕ, ◌-◌, ◌<◌, ◌≤◌, nat_lt, if◌then◌else◌, List, length, slice_index, take, drop, replicate}
 use Rattle.std.specs.Arc.{arc_value}
 use Rattle.std.specs.Str.{IsUtf8}
 use Rattle.std.specs.String.{string_bytes}
@@ -21,3 +21,11 @@ pub record IsShort (n : ℕ) (bytes : List ℕ) : Type 0 where
 abbrev pub IsHeld : StrBytes → Type 0
 IsHeld (Short n bytes) = IsShort n bytes
 IsHeld (Shared text) = 14 < length (string_bytes (arc_value text))
+
+-- a byte of a front of so many bytes, or zero behind it
+abbrev pub front_byte : ℕ → List ℕ → ℕ → ℕ
+front_byte n bytes i = if nat_lt i n then slice_index bytes i else 0
+
+-- so many bytes of the front, and zeros behind them
+abbrev pub IsFront : ℕ → List ℕ → List ℕ → Type 0
+IsFront n bytes front = (i : ℕ) → i < length front → slice_index front i ≡ front_byte n bytes i

@@ -109,7 +109,7 @@ impl PairList {
     }
 
     // The position of the pair with this key.
-    #[inline]
+    #[inline(always)]
     fn place(&self, key: &Str) -> Option<usize>
         ensures { result ≡ place_of key.now self.now }
     {
@@ -131,7 +131,7 @@ impl PairList {
 
     /// One more pair: a key that is there keeps its place and takes the value, and a new key goes
     /// last. Where memory is short the pairs stay as they are.
-    #[inline]
+    #[inline(always)]
     pub fn put(&mut self, alloc: Global, key: Str, value: Item) -> Result<(), NoMemory>
         ensures ok { OnOk result (self.new ≡ put key (datum value) self.old) }
         ensures err { OnErr result (self.new ≡ self.old) }
@@ -146,7 +146,7 @@ impl PairList {
     }
 
     // One more pair, whose key is new.
-    #[inline]
+    #[inline(always)]
     fn push(&mut self, alloc: Global, key: Str, value: Item) -> Result<(), NoMemory>
         requires { place_of key self.old ≡ None }
         ensures ok { OnOk result (self.new ≡ self.old ++ (key, datum value) ∷ []) }
