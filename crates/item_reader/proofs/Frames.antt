@@ -1,54 +1,20 @@
--- The frames of the code, and what is built of them.
-use Rattle.std.specs.Prelude.{◌≡◌, ◌<◌, ◌≤◌, ℕ, zero, suc, ◌+◌, true, false, nat_lt, List, [], ◌∷◌, ◌++◌, length, map, reverse, Some, None, take, get_or, refl}
-use Rattle.std.proofs.Common.{sym, ◌∙◌, ap, subst, arith}
-use Rattle.std.proofs.Math.ListN.{set}
+-- What is built of open frames.
+use Rattle.std.specs.Prelude.{◌≡◌, ◌<◌, ◌≤◌, ℕ, true, false, nat_lt, List, [], ◌∷◌, length, Some, None, refl}
+use Rattle.std.proofs.Common.{sym, ◌∙◌, ap, arith}
 use Rattle.std.proofs.lemmas.Bool.Decides.{nat_tests}
-use Rattle.std.proofs.lemmas.List.{reverse-append, map-append, length-reverse, length-map}
 use Rattle.item_tree.specs.Datum.{Datum}
 use Rattle.json_text.specs.Meaning.{too_deep}
 use Rattle.json_text.specs.inside.Machine as m
 use Rattle.json_text.specs.inside.Build as b
-use Rattle.json_text.specs.inside.Fits.{FrameFits, FramesFit, BuildFits}
-use Rattle.item_reader.specs.declared.frame.Frame.{Frame}
+use Rattle.json_text.specs.inside.Fits.{FramesFit, BuildFits}
 use Rattle.item_reader.specs.declared.build.Progress.{Progress}
 use Rattle.item_reader.specs.declared.build.Progress.TheVariants.{Open, Done, Troubled}
-use Rattle.item_reader.specs.View.{frame_of, frames_of, is_open, progress_of, on_frames, value_of, add_inside, key_inside, with_first}
-
-pub pushed : (xs : List Frame) (f : Frame) → frames_of (xs ++ f ∷ []) ≡ frame_of f ∷ frames_of xs
-unfolding frames_of
-pushed xs f = ap reverse (map-append frame_of xs (f ∷ [])) ∙ reverse-append (map frame_of xs) (frame_of f ∷ [])
-
-pub no_frames : (fs : List Frame) → fs ≡ [] → frames_of fs ≡ []
-unfolding frames_of
-no_frames fs e = rw e refl
+use Rattle.item_reader.specs.Levels.{value_of, add_inside, key_inside, with_first, ClosesTo}
+use Rattle.item_reader.specs.View.{is_open, progress_of, on_frames}
 
 pub nothing_long : {A : Type 0} (xs : List A) → length xs ≡ 0 → xs ≡ []
 nothing_long [] k = refl
 nothing_long (x ∷ xs) k = absurd (omega arith)
-
-pub frames_length : (fs : List Frame) → length (frames_of fs) ≡ length fs
-unfolding frames_of
-frames_length fs = simp (length-reverse, length-map)
-
-last_split : (xs : List Frame) (n : ℕ) (d : Frame) → n + 1 ≡ length xs → xs ≡ take n xs ++ get_or xs n d ∷ []
-last_split [] n d e = absurd (omega arith)
-last_split (x ∷ []) zero d e = refl
-last_split (x ∷ y ∷ xs) zero d e = absurd (omega arith)
-last_split (x ∷ xs) (suc n) d e = ap (λ zs. x ∷ zs) (last_split xs n d (omega arith))
-
-last_set : (xs : List Frame) (n : ℕ) (f : Frame) → n + 1 ≡ length xs → set xs n f ≡ take n xs ++ f ∷ []
-last_set [] n f e = absurd (omega arith)
-last_set (x ∷ []) zero f e = refl
-last_set (x ∷ y ∷ xs) zero f e = absurd (omega arith)
-last_set (x ∷ xs) (suc n) f e = ap (λ zs. x ∷ zs) (last_set xs n f (omega arith))
-
-pub set_last : (xs : List Frame) (n : ℕ) (f d : Frame) (g : b.Frame → b.Frame) → n + 1 ≡ length xs → frame_of f ≡ g (frame_of (get_or xs n d)) → frames_of (set xs n f) ≡ with_first g (frames_of xs)
-set_last xs n f d g e h =
-    ap frames_of (last_set xs n f e) ∙ pushed (take n xs) f ∙ ap (λ z. z ∷ frames_of (take n xs)) h ∙ sym (ap (with_first g) (ap frames_of (last_split xs n d e) ∙ pushed (take n xs) (get_or xs n d)))
-
--- the innermost frame is one that fits
-pub last_fits : (xs : List Frame) (n : ℕ) (d : Frame) → n + 1 ≡ length xs → FramesFit (frames_of xs) → FrameFits (length (frames_of (take n xs))) (frame_of (get_or xs n d))
-last_fits xs n d e h = (subst FramesFit (ap frames_of (last_split xs n d e) ∙ pushed (take n xs) (get_or xs n d)) h).1
 
 -- ---- what an event makes of the frames
 
@@ -98,19 +64,17 @@ open_fits (Troubled t) fs e f = absurd cc
 
 -- ---- the innermost frame taken out
 
-pub popped : (xs ys : List Frame) (f : Frame) → xs ≡ ys ++ f ∷ [] → frames_of xs ≡ frame_of f ∷ frames_of ys
-popped xs ys f e = ap frames_of e ∙ pushed ys f
+pub none_there : (f : List b.Frame → b.Build) (p : Progress) (fs : List b.Frame) → f [] ≡ b.building [] → is_open p ≡ true → length fs ≡ 0 → progress_of p fs ≡ on_frames f (progress_of p fs)
+none_there f p [] h o e = still_open p [] o ∙ sym h ∙ sym (ap (on_frames f) (still_open p [] o))
+none_there f p (x ∷ fs) h o e = absurd (omega arith)
 
-pub popped_fits : (xs ys : List Frame) (f : Frame) → xs ≡ ys ++ f ∷ [] → FramesFit (frames_of xs) → FrameFits (length (frames_of ys)) (frame_of f) × FramesFit (frames_of ys)
-popped_fits xs ys f e h = let k = subst FramesFit (popped xs ys f e) h in (k.1, k.2)
+pub first_done : (x : Datum) (fs : List b.Frame) → length fs ≡ 0 → b.done x ≡ b.add x fs
+first_done x [] e = refl
+first_done x (f ∷ fs) e = absurd (omega arith)
 
-pub none_there : (f : List b.Frame → b.Build) (p : Progress) (xs ys : List Frame) → f [] ≡ b.building [] → is_open p ≡ true → xs ≡ [] → ys ≡ [] → progress_of p (frames_of ys) ≡ on_frames f (progress_of p (frames_of xs))
-none_there f p xs ys h o e g =
-    still_open p (frames_of ys) o ∙ ap b.building (no_frames ys g) ∙ sym h ∙ sym (ap (on_frames f) (still_open p (frames_of xs) o ∙ ap b.building (no_frames xs e)))
-
-pub one_closed : (p : Progress) (xs ys : List Frame) (f : Frame) (x : Datum) (new : b.Build) → is_open p ≡ true → xs ≡ ys ++ f ∷ [] → x ≡ value_of (frame_of f) → new ≡ b.add x (frames_of ys) → new ≡ on_frames b.close (progress_of p (frames_of xs))
-one_closed p xs ys f x new o e v n =
-    n ∙ ap (λ z. b.add z (frames_of ys)) v ∙ sym (frame_closed (frame_of f) (frames_of ys)) ∙ sym (ap (on_frames b.close) (still_open p (frames_of xs) o ∙ ap b.building (popped xs ys f e)))
+pub one_closed : (p : Progress) (fs gs : List b.Frame) (x : Datum) (new : b.Build) → is_open p ≡ true → ClosesTo x fs gs → new ≡ b.add x gs → new ≡ on_frames b.close (progress_of p fs)
+one_closed p fs gs x new o c n =
+    n ∙ ap (λ z. b.add z gs) c.2 ∙ sym (frame_closed c.0 gs) ∙ sym (ap (on_frames b.close) (still_open p fs o ∙ ap b.building c.1))
 
 -- what an event makes of what is open
 pub opened : (p : Progress) (fs : List b.Frame) (f : List b.Frame → b.Build) (new : b.Build) → is_open p ≡ true → new ≡ f fs → new ≡ on_frames f (progress_of p fs)

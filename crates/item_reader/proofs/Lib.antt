@@ -2,6 +2,7 @@ pub mod Uncons
 pub mod TokenSteps
 pub mod NumberSteps
 pub mod StringSteps
+pub mod LevelSteps
 pub mod Frames
 pub mod Turning
 pub mod ReadingSteps

@@ -1,18 +1,16 @@
 -- Steps through a string, and what they leave to spell.
-use Rattle.std.specs.Prelude.{◌≡◌, ◌<◌, ◌≤◌, ℕ, zero, suc, ◌+◌, length, get_or, Bool, true, false, List, [], ◌∷◌, ◌++◌, take, drop, Some, None, refl}
-use borrow.Author.Count.{below_more}
-use Rattle.std.specs.Int.Bits.{bit_or}
+use Rattle.std.specs.Prelude.{◌≡◌, ℕ, suc, ◌+◌, Bool, true, false, List, [], ◌∷◌, ◌++◌, take, drop, Some, None, refl}
 use Rattle.std.specs.List.{prefix_len, list_all}
-use Rattle.std.proofs.lemmas.Nat.{le_or_l, le_or_r}
 use Rattle.std.specs.Str.{chars, IsUtf8, is_utf8}
-use Rattle.std.proofs.lemmas.Str.{IsUtf8-from_is_utf8}
+use Rattle.std.proofs.lemmas.Str.{IsUtf8-from_is_utf8, is_utf8-from_IsUtf8}
 use Rattle.std.proofs.lemmas.List.{take-append-drop}
-use Rattle.std.proofs.Common.{sym, ◌∙◌, ap, subst, arith, append-nil, lit<}
+use Rattle.std.proofs.Common.{sym, ◌∙◌, ap, subst, arith, append-nil}
 use Rattle.std.proofs.lemmas.Bool.{cond_both, and_from, ne_eqb}
 use Rattle.item_tree.specs.JsonString.{is_raw}
 use Rattle.json_text.specs.inside.Scan.{Part, string_at, after_bytes}
 use Rattle.json_text.specs.inside.Machine.{characters, bad, string_token}
 use Rattle.json_text.proofs.SpellLemmas.{after_none, after_after, stretch_spelled, quote_spelled, end_spelled, control_spelled}
+use Rattle.item_reader.specs.Strings.{IsText}
 use Rattle.item_reader.specs.Tokens.{uncons, begins}
 use Rattle.item_reader.proofs.Uncons.{cons_of, nil_of}
 
@@ -45,12 +43,6 @@ stretch bytes left new raw rest whole a b c h =
     let n = prefix_len is_raw left in
     rw (a, b, c) (sym (after_after bytes (take n left) (string_at (drop n left))) ∙ ap (after_bytes bytes) (sym (raw_taken left)) ∙ h)
 
--- no byte so far is greater than the bits of all of them together
-pub more_bits : (l : List ℕ) (i m : ℕ) → ((k : ℕ) → k < i → get_or l k 0 ≤ m) → (k : ℕ) → k < i + 1 → get_or l k 0 ≤ bit_or m (get_or l i 0)
-more_bits l i m h =
-    let x = get_or l i 0 in
-    below_more (λ k. get_or l k 0 ≤ bit_or m x) i (λ k p. let a = h k p in let b = le_or_l m x in omega arith) (le_or_r m x)
-
 -- ---- what ends a stretch
 
 pub cut_off : (new rest : List ℕ) (whole : Part (List ℕ)) → after_bytes new (string_at rest) ≡ whole → uncons rest ≡ None → None ≡ whole
@@ -77,17 +69,16 @@ escaped new rest whole b after h e q =
 
 -- ---- a string's token
 
--- bytes none of which is greater than a number below 128, with 0 past the end
-pub low_byte : (l : List ℕ) (m : ℕ) → ((k : ℕ) → k < length l → get_or l k 0 ≤ m) → m < 128 → (i : ℕ) → get_or l i 0 < 128
-low_byte [] m h t i = lit< tt
-low_byte (x ∷ l) m h t zero = let low = h 0 (omega arith) in omega arith
-low_byte (x ∷ l) m h t (suc i) = low_byte l m (λ k p. h (suc k) (omega arith)) t i
-
-pub string_there : (r : Part (List ℕ)) (bs rest : List ℕ) → Some (bs, rest) ≡ r → is_utf8 bs ≡ true → string_token r ≡ (characters (chars bs), rest)
+string_there : (r : Part (List ℕ)) (bs rest : List ℕ) → Some (bs, rest) ≡ r → is_utf8 bs ≡ true → string_token r ≡ (characters (chars bs), rest)
 string_there r bs rest h u = ap string_token (sym h) ∙ rw u refl
 
 pub string_refused : (r : Part (List ℕ)) (bs rest : List ℕ) → Some (bs, rest) ≡ r → is_utf8 bs ≡ false → string_token r ≡ (bad, [])
 string_refused r bs rest h u = ap string_token (sym h) ∙ rw u refl
+
+-- a string that spells these bytes, whose characters are this text
+pub text_there : (line bytes rest s : List ℕ) → Some (bytes, rest) ≡ string_at line → IsUtf8 bytes → s ≡ chars bytes → IsText line s rest
+text_there line bytes rest s h u e =
+    string_there (string_at line) bytes rest h (is_utf8-from_IsUtf8 bytes u) ∙ ap (λ z. (characters z, rest)) (sym e)
 
 pub no_utf8 : (bs : List ℕ) → (IsUtf8 bs → ⊥) → is_utf8 bs ≡ false
 no_utf8 bs n = by (is_utf8 bs) refl

@@ -1,6 +1,6 @@
 -- What makes a turn.
 use mathlib.Core.Bool.{beq}
-use Rattle.std.specs.Prelude.{◌≡◌, ◌⊎◌, ◌<◌, ℕ, zero, suc, ◌+◌, ◌-◌, Bool, true, false, not, List, [], ◌∷◌, ◌++◌, length, slice_get, Option, Some, None, Ok, refl}
+use Rattle.std.specs.Prelude.{◌≡◌, ◌⊎◌, ◌<◌, ◌≤◌, ℕ, zero, suc, ◌+◌, ◌-◌, Bool, true, false, not, List, [], ◌∷◌, ◌++◌, length, slice_get, Option, Some, None, Ok, refl}
 use Rattle.std.proofs.Common.{sym, ◌∙◌, ap, subst, arith, inl, inr}
 use Rattle.std.proofs.lemmas.List.{reverse-append, length-reverse}
 use Rattle.num_fixed.specs.Numeral.{Numeral}
@@ -18,7 +18,9 @@ use Rattle.item_reader.specs.View.{build_of, mode_of, kinds_of, on_frames}
 use Rattle.item_reader.specs.declared.turn.State.{State}
 use Rattle.item_reader.specs.declared.turn.Turn.{Turn}
 use Rattle.item_reader.specs.declared.turn.Turn.TheVariants.{More, End, NotJson}
-use Rattle.item_reader.specs.Turns.{Steps, IsAdded, turn_gives, Takes, IsTurn, closing}
+use Rattle.item_reader.specs.declared.turn.Mode.{Mode}
+use Rattle.item_reader.specs.declared.turn.Mode.TheVariants.{Value}
+use Rattle.item_reader.specs.Turns.{Steps, IsAdded, turn_gives, Takes, IsTurn, closing, comes_of, Passes, GoesOn}
 
 -- ---- kinds
 
@@ -202,27 +204,28 @@ abbrev next_mode : Bool → m.Mode
 next_mode true = m.value false
 next_mode false = m.key false
 
-comma_step : (f : Bool) (rest : m.Kinds) (k : m.Next) → m.step m.after (f ∷ rest) m.comma k ≡ k (next_mode f) (f ∷ rest)
-comma_step true rest k = refl
-comma_step false rest k = refl
+comma_goes : (f : Bool) (rest : m.Kinds) → m.goes None (next_mode f) (f ∷ rest) ≡ m.goes_on (f ∷ rest)
+comma_goes true rest = refl
+comma_goes false rest = refl
 
-goes : (old new : State) (f : Bool) → Some f ≡ slice_get old.kinds.items (length old.kinds.items - 1) → mode_of new.mode ≡ next_mode f → new.kinds ≡ old.kinds → new.build ≡ old.build → IsTurn m.after old m.comma More new
-goes old new f h x y z =
-    let l = some_last old.kinds.items f h in
-    let p = popped_kind old.kinds.items l.0 f l.1 in
-    turn_quiet m.after old m.comma new (next_mode f) (λ k. ap (λ ks. m.step m.after ks m.comma k) p ∙ comma_step f (kinds_of l.0) k ∙ ap (k (next_mode f)) (sym p)) x y z tt
+pub stops_alone : (xs : List Bool) → None ≡ slice_get xs (length xs - 1) → GoesOn None (kinds_of xs)
+stops_alone xs h = sym (ap m.goes_on (no_kinds xs (no_last xs h)))
 
-pub next_value : (old new : State) → Some true ≡ slice_get old.kinds.items (length old.kinds.items - 1) → mode_of new.mode ≡ m.value false → new.kinds ≡ old.kinds → new.build ≡ old.build → IsTurn m.after old m.comma More new
-next_value old new h x y z = goes old new true h x y z
+pub goes_inside : (xs : List Bool) (f : Bool) (x : Mode) → Some f ≡ slice_get xs (length xs - 1) → mode_of x ≡ next_mode f → GoesOn (Some x) (kinds_of xs)
+goes_inside xs f x h e =
+    let l = some_last xs f h in
+    let p = popped_kind xs l.0 f l.1 in
+    ap (λ y. m.goes None y (kinds_of xs)) e ∙ ap (m.goes None (next_mode f)) p ∙ comma_goes f (kinds_of l.0) ∙ sym (ap m.goes_on p)
 
-pub next_key : (old new : State) → Some false ≡ slice_get old.kinds.items (length old.kinds.items - 1) → mode_of new.mode ≡ m.key false → new.kinds ≡ old.kinds → new.build ≡ old.build → IsTurn m.after old m.comma More new
-next_key old new h x y z = goes old new false h x y z
+pub comma_refused : (old new : State) → GoesOn None (kinds_of old.kinds.items) → IsTurn m.after old m.comma NotJson new
+comma_refused old new h = turn_none m.after old m.comma new (λ k. ap (λ t. m.follow t k) (sym h))
 
-comma_alone : (k : m.Next) → m.step m.after [] m.comma k ≡ None
-comma_alone k = refl
+pub comma_taken : (old new : State) (x : Mode) → GoesOn (Some x) (kinds_of old.kinds.items) → new.mode ≡ x → new.kinds ≡ old.kinds → new.build ≡ old.build → IsTurn m.after old m.comma More new
+comma_taken old new x h md kinds build =
+    turn_quiet m.after old m.comma new (mode_of x) (λ k. ap (λ t. m.follow t k) (sym h)) (ap mode_of md) kinds build tt
 
-pub next_none : (old new : State) → None ≡ slice_get old.kinds.items (length old.kinds.items - 1) → IsTurn m.after old m.comma NotJson new
-next_none old new h = turn_none m.after old m.comma new (λ k. ap (λ ks. m.step m.after ks m.comma k) (no_kinds old.kinds.items (no_last old.kinds.items h)) ∙ comma_alone k)
+colon_taken : (old new : State) → mode_of new.mode ≡ m.value false → new.kinds ≡ old.kinds → new.build ≡ old.build → IsTurn m.name old m.colon More new
+colon_taken old new md kinds build = turn_quiet m.name old m.colon new (m.value false) (λ k. refl) md kinds build tt
 
 -- ---- the loop
 
@@ -237,3 +240,37 @@ shorter t l r h (inr (inr s)) = s
 
 pub behind_shorter : (old new : State) (rest : List ℕ) → IsTurn (mode_of old.mode) old (m.token_at rest).0 More new → length (m.token_at rest).1 < length rest
 behind_shorter old new rest t = shorter (m.token_at rest).0 rest (m.token_at rest).1 t.takes (takes rest)
+
+-- ---- marks that are passed
+
+comma_there : (rest : List ℕ) → m.token_at (44 ∷ rest) ≡ (m.comma, rest)
+unfolding m.token_at m.token_from
+comma_there rest = refl
+
+colon_there : (rest : List ℕ) → m.token_at (58 ∷ rest) ≡ (m.colon, rest)
+unfolding m.token_at m.token_from
+colon_there rest = refl
+
+passed : (old new : State) (line rest : List ℕ) (t : m.Token) → m.token_at line ≡ (t, rest) → IsTurn (mode_of old.mode) old t More new → length rest ≤ length line → Passes old line new rest
+passed old new line rest t e turn h = record {
+  same = ap (λ p. comes_of new p.1) (sym e) ∙ turned old new More line (comes_of old line) (subst (λ p. IsTurn (mode_of old.mode) old p.0 More new) (sym e) turn) refl;
+  fits = turn.fits;
+  within = h;
+}
+
+pub kept : (old : State) (line : List ℕ) → Passes old line old line
+kept old line = record { same = refl; fits = λ f. f; within = omega arith }
+
+pub colon_passed : (old : State) (line rest : List ℕ) → mode_of old.mode ≡ m.name → line ≡ 58 ∷ rest → Passes old line (record old { mode = Value false }) rest
+colon_passed old line rest md e =
+    let new = record old { mode = Value false } in
+    passed old new line rest m.colon (ap m.token_at e ∙ colon_there rest)
+    (subst (λ x. IsTurn x old m.colon More new) (sym md) (colon_taken old new refl refl refl))
+    (let l = ap length e in omega (arith, l))
+
+pub comma_passed : (old : State) (line rest : List ℕ) (x : Mode) → mode_of old.mode ≡ m.after → line ≡ 44 ∷ rest → GoesOn (Some x) (kinds_of old.kinds.items) → Passes old line (record old { mode = x }) rest
+comma_passed old line rest x md e goes =
+    let new = record old { mode = x } in
+    passed old new line rest m.comma (ap m.token_at e ∙ comma_there rest)
+    (subst (λ y. IsTurn y old m.comma More new) (sym md) (comma_taken old new x goes refl refl refl))
+    (let l = ap length e in omega (arith, l))

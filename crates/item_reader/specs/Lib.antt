@@ -5,6 +5,8 @@ pub mod inside
 pub mod Faults
 pub mod Outcomes
 pub mod Tokens
+pub mod FrameCode
+pub mod Levels
 pub mod View
 pub mod Turns
 pub mod Strings

@@ -1,6 +1,6 @@
 -- How the code reads a string, whose opening quote is before the line.
 use denote.Ref.{Bor}
-use Rattle.std.specs.Prelude.{◌≡◌, ◌<◌, ℕ, suc, List, [], ◌∷◌, length, Option, None, IfSome, MatchOption}
+use Rattle.std.specs.Prelude.{◌≡◌, ◌<◌, ℕ, suc, List, [], ◌∷◌, length, Option, None, option_map, IfSome, MatchOption}
 use Rattle.json_text.specs.inside.Scan.{string_at, after_bytes}
 use Rattle.json_text.specs.inside.Machine as m
 
@@ -13,6 +13,10 @@ IsNoText line = m.string_token (string_at line) ≡ (m.bad, [])
 
 abbrev pub FindsText : List ℕ → Option (List ℕ × Bor (List ℕ)) → Type 0
 FindsText line o = MatchOption o (IsNoText line) (λ p. IsText line p.0 p.1.now)
+
+-- the string spells these bytes and this is behind it, or none is there
+abbrev pub Spells : List ℕ → List ℕ → Option (Bor (List ℕ)) → Type 0
+Spells line bytes o = option_map (λ rest. (bytes, rest.now)) o ≡ string_at line
 
 -- what is left behind an escape whose backslash is before the line, with the bytes so far
 abbrev pub IsPastEscape : List ℕ → List ℕ → List ℕ → Option (Bor (List ℕ)) → Type 0

@@ -1,6 +1,6 @@
 -- One turn of the machine, in the code.
 use denote.Ref.{Bor}
-use Rattle.std.specs.Prelude.{◌≡◌, ℕ, List, ◌∷◌, Bool, true, false, Option, Some, None, Result, IfOk}
+use Rattle.std.specs.Prelude.{◌≡◌, ℕ, ◌≤◌, List, ◌∷◌, length, Bool, true, false, Option, Some, None, Result, IfOk}
 use Rattle.json_text.specs.inside.Machine as m
 use Rattle.json_text.specs.inside.Build as b
 use Rattle.num_fixed.specs.Numeral.{Numeral}
@@ -10,6 +10,7 @@ use Rattle.item_reader.specs.Tokens.{StandsFor, IsNumberOut, IsPart}
 use Rattle.item_reader.specs.declared.token.Token.{Token}
 use Rattle.item_reader.specs.View.{build_of, mode_of, kinds_of, on_frames}
 use Rattle.json_text.specs.inside.Fits.{BuildFits}
+use Rattle.item_reader.specs.declared.turn.Mode.{Mode}
 use Rattle.item_reader.specs.declared.turn.State.{State}
 use Rattle.item_reader.specs.declared.turn.Turn.{Turn}
 use Rattle.item_reader.specs.declared.turn.Turn.TheVariants.{More, End, NotJson}
@@ -97,3 +98,21 @@ GivesTurn old p r new = IfOk r (λ x. IsTurnAt old p x.0 x.1.now new)
 abbrev pub TurnsPart : State → Token → List ℕ → TurnAndRest → State → Type 0
 TurnsPart old token behind r new =
     (p : m.Token × List ℕ) → IsPart token behind p → GivesTurn old p r new
+
+-- what comes of the rest of a text in this state
+abbrev pub comes_of : State → List ℕ → Option b.Build
+comes_of s l = goes s (λ m2 ks2. m.run m2 ks2 l)
+
+-- what is left comes to the same, and is no longer
+pub record Passes (old : State) (line : List ℕ) (new : State) (left : List ℕ) : Type 0 where
+  pub same : comes_of new left ≡ comes_of old line
+  pub fits : BuildFits (build_of old.build) → BuildFits (build_of new.build)
+  pub within : length left ≤ length line
+
+-- what the machine does at a comma behind a value: it stops, or goes on in this mode
+abbrev pub comma_turn : Option Mode → m.Kinds → m.Turn
+comma_turn None ks = m.stops
+comma_turn (Some x) ks = m.goes None (mode_of x) ks
+
+abbrev pub GoesOn : Option Mode → m.Kinds → Type 0
+GoesOn o ks = comma_turn o ks ≡ m.goes_on ks

@@ -3,12 +3,14 @@
 ghost use Rattle.std.specs.Prelude.{◌≡◌, true, OnOk};
 ghost use Rattle.item_tree.specs.Item.{datum};
 ghost use Rattle.json_text.specs.inside.Build.{start, push_frame as push_frame_of, add as add_of, close as close_of, set_key as set_key_of, troubled};
-ghost use Rattle.item_reader.specs.View.{is_open as is_open_of, Does, frame_of, frames_in, build_of, trouble_of};
+ghost use Rattle.item_reader.specs.Levels.{empty_frame};
+ghost use Rattle.item_reader.specs.View.{is_open as is_open_of, Does, frames_in, build_of, trouble_of};
 ghost use Rattle.json_text.specs.inside.Fits.{BuildFits};
 
-use crate::frame::{Frame, add_in_place, set_key_in_place};
+use crate::levels::Levels;
 use item_tree::{Item, NoMemory, Str};
 use std::alloc::Global;
+use std::mem;
 
 /// So many containers may be open at once.
 const MOST_OPEN: usize = 128;
@@ -26,11 +28,11 @@ pub enum Progress {
     Troubled(Trouble),
 }
 
-/// The containers that are open, the innermost last, and whether the item is done or the text has a
+/// The containers that are open, and whether the item is done or the text has a
 /// trouble, which stays.
 #[derive(Drop)]
 pub struct Build {
-    frames: Vec<Frame>,
+    levels: Levels,
     progress: Progress,
 }
 
@@ -39,17 +41,27 @@ impl Build {
         ensures { build_of result ≡ start }
     {
         Build {
-            frames: Vec::new(alloc),
+            levels: Levels::new(alloc),
             progress: Progress::Open,
         }
     }
 
-    pub fn into_progress(self) -> Progress
-        ensures { result ≡ self.progress }
+    /// Nothing is open, nor done.
+    pub fn restart(&mut self)
+        ensures { build_of self.new ≡ start }
     {
-        self.progress
+        self.levels.clear();
+        self.progress = Progress::Open;
     }
 
+    /// What has become of the text. Nothing is done from here on.
+    pub fn take_progress(&mut self) -> Progress
+        ensures { result ≡ self.old.progress }
+    {
+        mem::replace(&mut self.progress, Progress::Open)
+    }
+
+    #[inline(always)]
     fn is_open(&self) -> bool
         ensures { result ≡ is_open_of self.now.progress }
     {
@@ -60,14 +72,14 @@ impl Build {
         }
     }
 
-    pub fn open(&mut self, frame: Frame) -> Result<(), NoMemory>
-        ensures { OnOk result (Does (push_frame_of (frame_of frame)) self.old self.new) }
+    pub fn open(&mut self, alloc: Global, is_array: bool) -> Result<(), NoMemory>
+        ensures { OnOk result (Does (push_frame_of (empty_frame is_array)) self.old self.new) }
     {
         if !self.is_open() {
             return Ok(());
         }
-        if self.frames.len() < MOST_OPEN {
-            self.frames.push(frame)?;
+        if self.levels.len() < MOST_OPEN {
+            self.levels.open(alloc, is_array)?;
         } else {
             self.progress = Progress::Troubled(Trouble::TooDeep);
         }
@@ -75,18 +87,20 @@ impl Build {
     }
 
     // A value that is complete goes into the innermost container, or it is the whole.
+    #[inline(always)]
     fn add_open(&mut self, alloc: Global, item: Item) -> Result<(), NoMemory>
         requires { is_open_of self.old.progress ≡ true }
         ensures { OnOk result (build_of self.new ≡ add_of (datum item) (frames_in self.old)) }
     {
-        if self.frames.is_empty() {
+        if self.levels.len() == 0 {
             self.progress = Progress::Done(item);
         } else {
-            add_in_place(alloc, &mut self.frames, item)?;
+            self.levels.add(alloc, item)?;
         }
         Ok(())
     }
 
+    #[inline(always)]
     pub fn add(&mut self, alloc: Global, item: Item) -> Result<(), NoMemory>
         ensures { OnOk result (Does (add_of (datum item)) self.old self.new) }
     {
@@ -104,26 +118,25 @@ impl Build {
         if !self.is_open() {
             return Ok(());
         }
-        match self.frames.pop() {
-            None => Ok(()),
-            Some(frame) => {
-                let item = frame.into_item(alloc)?;
-                self.add_open(alloc, item)?;
-                Ok(())
-            }
+        if self.levels.len() == 0 {
+            return Ok(());
         }
+        let item = self.levels.close(alloc)?;
+        self.add_open(alloc, item)?;
+        Ok(())
     }
 
+    #[inline(always)]
     pub fn set_key(&mut self, text: Str)
         ensures { Does (set_key_of text) self.old self.new }
     {
         if !self.is_open() {
             return;
         }
-        if self.frames.is_empty() {
+        if self.levels.len() == 0 {
             return;
         }
-        set_key_in_place(&mut self.frames, text);
+        self.levels.set_key(text);
     }
 
     pub fn fail(&mut self, trouble: Trouble)

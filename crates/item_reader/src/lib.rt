@@ -3,8 +3,8 @@
 
 mod build;
 mod fault;
-mod frame;
 pub mod laws;
+mod levels;
 mod number;
 mod read;
 mod string;
@@ -14,4 +14,4 @@ mod token;
 mod turn;
 
 pub use fault::LineFault;
-pub use read::read_item;
+pub use read::{Reader, read_item};

@@ -1,39 +1,69 @@
-ghost use Rattle.std.specs.Prelude.{◌≡◌, IfOk, IfErr, option_map};
-ghost use Rattle.json_text.specs.Line.{is_blank as is_blank_of, is_line_space as is_line_space_of};
+ghost use Rattle.std.specs.Prelude.{◌≡◌, IfOk, IfErr};
 ghost use Rattle.json_text.specs.inside.Build.{made, reading};
-ghost use Rattle.item_reader.specs.View.{build_of};
+ghost use Rattle.item_reader.specs.View.{built_if};
 ghost use Rattle.item_reader.specs.Outcomes.{Gives, Raises, AnswersLine};
 
 use crate::LineFault;
-use crate::build::{Build, Progress, Trouble};
+use crate::build::{Progress, Trouble};
 use crate::turn::{State, Turn};
+use byte_lanes::is_blank;
 use item_tree::{Item, NoMemory};
 use std::alloc::Global;
 
-fn is_line_space(b: u8) -> bool
-    ensures { result ≡ is_line_space_of b }
-{
-    b == b' ' || b == b'\t' || b == b'\r'
+/// A reader of lines. It keeps its room from line to line, as much as the greatest line took.
+#[derive(Drop)]
+pub struct Reader {
+    alloc: Global,
+    state: State,
 }
 
-fn is_blank(line: &[u8]) -> bool
-    ensures { result ≡ is_blank_of line.now }
-{
-    line.iter().all(|b| is_line_space(*b))
-}
+impl Reader {
+    /// A reader that has read nothing.
+    pub fn new(alloc: Global) -> Reader {
+        Reader {
+            alloc,
+            state: State::new(alloc),
+        }
+    }
 
-// What is built of the whole line, or nothing where it is no text.
-fn read_text(alloc: Global, line: &[u8]) -> Result<Option<Build>, NoMemory>
-    ensures { IfOk result (λ o. made line.now ≡ option_map build_of o) }
-{
-    let mut state = State::new(alloc);
-    let mut rest = line;
-    'tokens: loop {
-        let (turn, behind) = state.take_next(alloc, rest)?;
-        match turn {
-            Turn::More => rest = behind,
-            Turn::End => return Ok(Some(state.build)),
-            Turn::NotJson => return Ok(None),
+    // Builds what the whole line says, and tells whether it is a text.
+    fn read_text(&mut self, line: &[u8]) -> Result<bool, NoMemory>
+        ensures { IfOk result (λ t. made line.now ≡ built_if t self.new.state.build) }
+    {
+        let alloc = self.alloc;
+        self.state.restart();
+        let mut rest = line;
+        'tokens: loop {
+            let (turn, behind) = self.state.take_next(alloc, rest)?;
+            match turn {
+                Turn::More => rest = self.state.pass_mark(behind),
+                Turn::End => return Ok(true),
+                Turn::NotJson => return Ok(false),
+            }
+        }
+    }
+
+    /// The item of a line, and none where the line is blank, as [`read_item`] gives it. What was
+    /// read before changes nothing, whatever it was.
+    pub fn read(&mut self, line: &[u8]) -> Result<Option<Item>, LineFault>
+        // As the grammar and the meaning of JSON have it.
+        ensures reads { AnswersLine line.now result }
+        // As a reader computes it, which is the same.
+        ensures ok { IfOk result (Gives (reading line.now)) }
+        ensures err { IfErr result (Raises (reading line.now)) }
+    {
+        if is_blank(line) {
+            return Ok(None);
+        }
+        let is_text = self.read_text(line)?;
+        if !is_text {
+            return Err(LineFault::NotJson);
+        }
+        match self.state.build.take_progress() {
+            Progress::Done(item) => Ok(Some(item)),
+            Progress::Troubled(Trouble::NumberOut) => Err(LineFault::NumberOut),
+            Progress::Troubled(Trouble::TooDeep) => Err(LineFault::TooDeep),
+            Progress::Open => unreachable!(),
         }
     }
 }
@@ -52,16 +82,5 @@ pub fn read_item(alloc: Global, line: &[u8]) -> Result<Option<Item>, LineFault>
     ensures ok { IfOk result (Gives (reading line.now)) }
     ensures err { IfErr result (Raises (reading line.now)) }
 {
-    if is_blank(line) {
-        return Ok(None);
-    }
-    let Some(build) = read_text(alloc, line)? else {
-        return Err(LineFault::NotJson);
-    };
-    match build.into_progress() {
-        Progress::Done(item) => Ok(Some(item)),
-        Progress::Troubled(Trouble::NumberOut) => Err(LineFault::NumberOut),
-        Progress::Troubled(Trouble::TooDeep) => Err(LineFault::TooDeep),
-        Progress::Open => unreachable!(),
-    }
+    Reader::new(alloc).read(line)
 }

@@ -361,3 +361,50 @@ fn faults_have_codes(rt: HostRuntime) {
     assert_eq!(rt; LineFault::TooDeep.code(), Some(Code::PJDY0002));
     assert_eq!(rt; LineFault::NoMemory.code(), None);
 }
+
+// A reader that has read other lines, at fault or not, reads each as one that is new does.
+#[test]
+fn reads_line_after_line(rt: HostRuntime) {
+    let lines = [
+        (b"[[1,2],{\"a\":[3".as_slice(), NOT_JSON),
+        (b"{\"b\":1}", Answer::Object(1)),
+        (b"[", NOT_JSON),
+        (b"[]", Answer::Array(0)),
+        (b"{\"a\":1,\"b\":{\"c\":\"x\\", NOT_JSON),
+        (b"{}", Answer::Object(0)),
+        (b"\"q\\\"r\"", Answer::Text("q\"r")),
+        (b"\"\\t\"", Answer::Text("\t")),
+        (b"[1e400,{\"k\":[1,2]}]", NUMBER_OUT),
+        (b"[{\"k\":1},[2]]", Answer::Array(2)),
+        (b"{\"a\":1,\"a\":[1,[2]]}", Answer::Object(1)),
+        (b"", Answer::Blank),
+        (b"7", Answer::Int(7)),
+    ];
+    let mut reader = Reader::new(rt.alloc());
+    for _round in 0..2 {
+        for (line, want) in lines {
+            assert_eq!(rt; answer_of(&reader.read(line)), want, "at {line:?}");
+        }
+    }
+}
+
+// Each short string of each length in front of lines of each length: the end of one is looked for
+// by vectors where the line is long, and byte by byte at its end.
+#[test]
+fn reads_strings_of_each_length(rt: HostRuntime) -> Result<(), Fail> {
+    let alloc = rt.alloc();
+    let text = "abcdefghijklmnopqrstuvwxyz0123456789";
+    for len in 0..36usize {
+        for behind in [0, 1, 13, 14, 15, 16, 17, 40] {
+            let mut line = String::from_str(alloc, "\"")?;
+            line.push_str(&text[..len])?;
+            line.push('"')?;
+            for _i in 0..behind {
+                line.push(' ')?;
+            }
+            let read = read_item(alloc, line.as_bytes());
+            assert_eq!(rt; answer_of(&read), Answer::Text(&text[..len]), "at {line}");
+        }
+    }
+    Ok(())
+}

@@ -9,13 +9,12 @@ ghost use Rattle.json_text.specs.inside.Build.{start};
 ghost use Rattle.item_reader.specs.Tokens.{StandsFor};
 ghost use Rattle.item_reader.specs.View.{build_of, mode_of, kinds_of};
 ghost use Rattle.json_text.specs.inside.Fits.{BuildFits};
-ghost use Rattle.item_reader.specs.Turns.{IsTurn, IsAdded, Steps, Opens, PassesNumber, TurnsBy, TurnsPart, GivesTurn, closing};
+ghost use Rattle.item_reader.specs.Turns.{IsTurn, IsAdded, Steps, Opens, PassesNumber, Passes, GoesOn, TurnsBy, TurnsPart, GivesTurn, closing};
 
 use crate::build::{Build, Trouble};
-use crate::frame::Frame;
 use crate::string::{escaped_text, plain_text};
 use crate::token::{Token, skip_spaces, uncons, value_from};
-use item_tree::{Item, NoMemory, PairList, Str};
+use item_tree::{Item, NoMemory, Str};
 use std::alloc::Global;
 
 #[derive(Clone, Copy, Debug)]
@@ -32,6 +31,8 @@ pub struct State {
     /// Whether each container that is open is an array, the innermost last.
     pub kinds: Vec<bool>,
     pub build: Build,
+    /// What a string with escapes spells is gathered here.
+    content: Vec<u8>,
 }
 
 #[derive(Clone, Copy, Debug)]
@@ -51,14 +52,26 @@ impl State {
             mode: Mode::Value(false),
             kinds: Vec::new(alloc),
             build: Build::new(alloc),
+            content: Vec::new(alloc),
         }
+    }
+
+    /// A new text begins.
+    pub fn restart(&mut self)
+        ensures build { build_of self.new.build ≡ start }
+        ensures kinds { kinds_of self.new.kinds.items ≡ [] }
+        ensures mode { mode_of self.new.mode ≡ m.value false }
+    {
+        self.mode = Mode::Value(false);
+        self.kinds.clear();
+        self.build.restart();
     }
 
     #[tactic(auto, using(crate::proofs::Turning::kind_pushed))]
     fn open_array(&mut self, alloc: Global) -> Result<(), NoMemory>
         ensures { OnOk result (Opens true self.old self.new) }
     {
-        self.build.open(Frame::Array(Vec::new(alloc)))?;
+        self.build.open(alloc, true)?;
         self.kinds.push(true)?;
         self.mode = Mode::Value(true);
         Ok(())
@@ -68,7 +81,7 @@ impl State {
     fn open_object(&mut self, alloc: Global) -> Result<(), NoMemory>
         ensures { OnOk result (Opens false self.old self.new) }
     {
-        self.build.open(Frame::Object(PairList::new(alloc), None))?;
+        self.build.open(alloc, false)?;
         self.kinds.push(false)?;
         self.mode = Mode::Key(true);
         Ok(())
@@ -92,6 +105,7 @@ impl State {
         }
     }
 
+    #[inline(always)]
     fn add(&mut self, alloc: Global, item: Item) -> Result<(), NoMemory>
         ensures { OnOk result (IsAdded self.old (datum item) self.new) }
     {
@@ -107,6 +121,7 @@ impl State {
         self.mode = Mode::After;
     }
 
+    #[inline(always)]
     fn set_key(&mut self, text: Str)
         ensures { Steps self.old (m.keyed text) m.name (kinds_of self.old.kinds.items) self.new }
     {
@@ -175,18 +190,26 @@ impl State {
         }
     }
 
+    // What may come behind a comma, where there may be one.
+    #[inline(always)]
+    fn behind_comma(&self) -> Option<Mode>
+        ensures { GoesOn result (kinds_of self.now.kinds.items) }
+    {
+        match self.kinds.last() {
+            None => None,
+            Some(true) => Some(Mode::Value(false)),
+            Some(false) => Some(Mode::Key(false)),
+        }
+    }
+
     #[inline(always)]
     fn go_on(&mut self) -> Turn
         ensures { IsTurn m.after self.old m.comma result self.new }
     {
-        match self.kinds.last() {
+        match self.behind_comma() {
             None => Turn::NotJson,
-            Some(true) => {
-                self.mode = Mode::Value(false);
-                Turn::More
-            }
-            Some(false) => {
-                self.mode = Mode::Key(false);
+            Some(mode) => {
+                self.mode = mode;
                 Turn::More
             }
         }
@@ -214,6 +237,54 @@ impl State {
             Token::CloseObject => self.close(alloc, false),
             Token::End => Ok(self.end_turn()),
             _ => Ok(Turn::NotJson),
+        }
+    }
+
+    #[inline(always)]
+    fn pass_colon<'a>(&mut self, line: &'a [u8]) -> &'a [u8]
+        requires { mode_of self.old.mode ≡ m.name }
+        ensures { Passes self.old line.now self.new result.now }
+    {
+        let Some((mark, rest)) = uncons(line) else {
+            return line;
+        };
+        if mark != b':' {
+            return line;
+        }
+        self.mode = Mode::Value(false);
+        rest
+    }
+
+    #[inline(always)]
+    fn pass_comma<'a>(&mut self, line: &'a [u8]) -> &'a [u8]
+        requires { mode_of self.old.mode ≡ m.after }
+        ensures { Passes self.old line.now self.new result.now }
+    {
+        let Some((mark, rest)) = uncons(line) else {
+            return line;
+        };
+        if mark != b',' {
+            return line;
+        }
+        match self.behind_comma() {
+            None => line,
+            Some(mode) => {
+                self.mode = mode;
+                rest
+            }
+        }
+    }
+
+    /// Passes the colon that stands right behind a key, or the comma right behind a value, without
+    /// a turn of its own. What is left comes to the same.
+    #[inline(always)]
+    pub fn pass_mark<'a>(&mut self, line: &'a [u8]) -> &'a [u8]
+        ensures { Passes self.old line.now self.new result.now }
+    {
+        match self.mode {
+            Mode::Name => self.pass_colon(line),
+            Mode::After => self.pass_comma(line),
+            Mode::Value(_) | Mode::Key(_) => line,
         }
     }
 
@@ -278,10 +349,10 @@ impl State {
     ) -> Result<(Turn, &'a [u8]), NoMemory>
         ensures { GivesTurn self.old (string_token (string_at line.now)) result self.new }
     {
-        if let Some((text, behind)) = plain_text(line) {
-            return self.take_text(alloc, Str::of(alloc, text)?, behind);
+        if let Some((text, behind)) = plain_text(alloc, line)? {
+            return self.take_text(alloc, text, behind);
         }
-        match escaped_text(alloc, line)? {
+        match escaped_text(alloc, &mut self.content, line)? {
             Some((text, behind)) => self.take_text(alloc, text, behind),
             None => Ok((Turn::NotJson, &[])),
         }

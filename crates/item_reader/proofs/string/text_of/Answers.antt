@@ -1,6 +1,5 @@
 use Rattle.std.proofs.lemmas.Str.{IsUtf8-from_ascii}
-use Rattle.item_reader.proofs.StringSteps.{low_byte}
 use Rattle.item_reader.proofs.string.text_of.Goals as goal
 
 pub from_utf8_unchecked-requires : goal.from_utf8_unchecked-requires
-from_utf8_unchecked-requires c = IsUtf8-from_ascii c.args.bytes.now (low_byte c.args.bytes.now c.args.most c.requires c.if-most-lt128.true)
+from_utf8_unchecked-requires c = IsUtf8-from_ascii c.args.bytes.now (c.requires c.if-ascii.true)

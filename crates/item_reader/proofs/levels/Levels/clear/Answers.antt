@@ -1,0 +1,5 @@
+use Rattle.item_reader.proofs.LevelSteps.{no_levels}
+use Rattle.item_reader.proofs.levels.Levels.clear.Goals as goal
+
+pub returns : goal.returns
+returns c = no_levels c.self.inside.levels.items

@@ -1,0 +1,25 @@
+use Rattle.std.proofs.Common.{arith}
+use Rattle.item_reader.specs.Levels.{key_inside}
+use Rattle.item_reader.proofs.LevelSteps.{depth_is, last_changed}
+use Rattle.item_reader.proofs.levels.Levels.set_key.Goals as goal
+
+pub overflow_sub-self-inside : goal.overflow_sub-self-inside
+overflow_sub-self-inside c =
+    let n = c.self.inside.depth in let xs = c.self.inside.levels.items in
+    let d = depth_is n xs c.args.self.now c.self.invariant c.self.view_is in
+    omega (arith, d, c.requires)
+
+pub set_key_at-requires : goal.set_key_at-requires
+set_key_at-requires c =
+    let n = c.self.inside.depth in let xs = c.self.inside.levels.items in
+    let d = depth_is n xs c.args.self.now c.self.invariant c.self.view_is in
+    omega (arith, d, c.requires, c.self.invariant)
+
+pub invariant_of-self : goal.invariant_of-self
+invariant_of-self c = omega (arith, c.self.invariant, c.set_key_at.ensures.kept)
+
+pub returns : goal.returns
+returns c =
+    let n = c.self.inside.depth in let xs = c.self.inside.levels.items in
+    let d = depth_is n xs c.args.self.now c.self.invariant c.self.view_is in
+    last_changed n xs c.set_key_at.new.levels.items (key_inside c.args.text) c.args.self.now (omega (arith, d, c.requires)) c.set_key_at.ensures.set c.self.view_is
