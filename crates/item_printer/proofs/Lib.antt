@@ -1,3 +1,4 @@
 pub mod Cuts
 pub mod ItemLists
+pub mod Stops
 pub mod StringTexts

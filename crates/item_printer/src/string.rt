@@ -5,6 +5,7 @@ ghost use Rattle.item_printer.specs.Cut.{IsCut};
 ghost use Rattle.item_printer.specs.StringBytes.{byte_text, bytes_text, quoted_text, is_escaped};
 
 use crate::append::{append, append_byte};
+use byte_lanes::first_string_stop;
 use item_tree::{DateText, NoMemory, Str};
 
 pub(crate) fn print_string(text: &Str, out: &mut Vec<u8>) -> Result<(), NoMemory>
@@ -46,12 +47,11 @@ fn print_bytes(bytes: &[u8], out: &mut Vec<u8>) -> Result<(), NoMemory>
     append(rest, out)
 }
 
+#[tactic(auto, using(crate::proofs::Stops::first_stop_position))]
 fn first_escaped(bytes: &[u8]) -> Option<usize>
     ensures { result ≡ position is_escaped bytes.now }
 {
-    bytes
-        .iter()
-        .position(|b| *b < 32 || *b == b'"' || *b == b'\\')
+    first_string_stop(bytes)
 }
 
 fn print_escape(byte: u8, out: &mut Vec<u8>) -> Result<(), NoMemory>
