@@ -1,11 +1,11 @@
 //! The lines of a part of a file that begins where a line begins.
 
-ghost use Rattle.std.specs.Prelude.{◌≡◌, ◌≤◌, ◌<◌, ◌+◌, ◌++◌, ◌^◌, length, position, map, OnOk, IfOk, IfSome};
-ghost use Rattle.json_text.specs.Line.{is_blank as is_blank_of, is_line_space};
+ghost use Rattle.std.specs.Prelude.{◌≡◌, ◌≤◌, ◌<◌, ◌+◌, ◌++◌, ◌^◌, length, map, OnOk, IfOk, IfSome};
 ghost use Rattle.line_pieces.specs.Pieces.{line_of};
-ghost use Rattle.line_pieces.specs.inside.Contents.{is_end, clean, kept_of, lines_at, lines_left, left_of, left_length};
+ghost use Rattle.line_pieces.specs.inside.Contents.{clean, kept_of, lines_at, lines_left, left_of, left_length};
 
 use crate::mark::without_mark;
+use byte_lanes::{first_newline, is_blank};
 use item_tree::NoMemory;
 use std::alloc::Global;
 
@@ -19,13 +19,6 @@ pub struct Line {
     pub bytes: Vec<u8>,
 }
 
-/// The place of the first line feed.
-pub(crate) fn first_end(bytes: &[u8]) -> Option<usize>
-    ensures { result ≡ position is_end bytes.now }
-{
-    bytes.iter().position(|b| *b == b'\n')
-}
-
 // The first line of a part of a file that begins at this offset, and what stands behind its line
 // feed with the offset there, where it has one.
 fn split_line(at: u64, part: &[u8]) -> (&[u8], Option<(u64, &[u8])>)
@@ -34,23 +27,10 @@ fn split_line(at: u64, part: &[u8]) -> (&[u8], Option<(u64, &[u8])>)
     ensures fits { IfSome (left_of result.1) (λ p. p.0 + length p.1 < 2 ^ 64) }
     ensures shorter { left_length (left_of result.1) ≤ length part.now }
 {
-    match first_end(part) {
+    match first_newline(part) {
         Some(end) => (&part[..end], Some((at + end as u64 + 1, &part[end + 1..]))),
         None => (part, None),
     }
-}
-
-fn is_blank(line: &[u8]) -> bool
-    ensures { result ≡ is_blank_of line.now }
-{
-    line.iter().all(|b| is_space(*b))
-}
-
-// Whether a byte of a blank line.
-fn is_space(byte: u8) -> bool
-    ensures { result ≡ is_line_space byte }
-{
-    byte == b' ' || byte == b'\t' || byte == b'\r'
 }
 
 // The bytes of the line at this offset, without a mark where the file begins there.

@@ -7,10 +7,11 @@ ghost use Rattle.line_pieces.specs.Faults.{CausedBy, CausedByFile, NoneFalls};
 ghost use Rattle.line_pieces.specs.inside.Contents.{is_end};
 ghost use Rattle.line_pieces.specs.inside.Parts.{part_lines};
 
-use crate::lines::{Line, count_at, first_end, lines_at};
+use crate::lines::{Line, count_at, lines_at};
 use crate::part::Part;
 use crate::read::{read_buffer, read_range, with_line_end};
 use crate::{Cut, PieceFault};
+use byte_lanes::first_newline;
 use outside::InputFile;
 use std::alloc::Global;
 
@@ -25,7 +26,7 @@ fn first_begin(bytes: &[u8], number: u64) -> Option<usize>
     if number == 0 {
         return Some(0);
     }
-    match first_end(bytes) {
+    match first_newline(bytes) {
         Some(end) => Some(end + 1),
         None => None,
     }

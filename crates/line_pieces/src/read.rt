@@ -6,7 +6,7 @@ ghost use Rattle.line_pieces.specs.Faults.{CausedBy};
 ghost use Rattle.line_pieces.specs.inside.Contents.{is_end};
 
 use crate::PieceFault;
-use crate::lines::first_end;
+use byte_lanes::first_newline;
 use outside::InputFile;
 use std::alloc::{AllocError, Global};
 
@@ -102,7 +102,7 @@ fn read_line_end<F: InputFile>(
             return Ok(());
         }
         let read = &buffer[..count];
-        match first_end(read) {
+        match first_newline(read) {
             Some(line_end) => {
                 bytes.extend_from_slice(&read[..line_end])?;
                 return Ok(());
