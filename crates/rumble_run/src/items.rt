@@ -1,4 +1,4 @@
-ghost use Rattle.std.specs.Prelude.{◌≡◌, ◌≤◌, ◌∷◌, length, ◌==◌, position, Ok, Err, IfOk, IfErr, IfSome, option_copied};
+ghost use Rattle.std.specs.Prelude.{◌≡◌, ◌≤◌, ◌∷◌, length, Ok, Err, IfOk, IfErr, IfSome, option_copied};
 ghost use Rattle.item_tree.specs.Item.{datums};
 ghost use Rattle.item_reader.specs.Lines.{cut};
 ghost use Rattle.item_reader.specs.inside.Items.{items_of};
@@ -6,22 +6,17 @@ ghost use Rattle.item_reader.specs.Faults.{code_of};
 ghost use Rattle.rumble_run.specs.inside.Cuts.{lines_of, left_length};
 
 use crate::mark::without_mark;
+use byte_lanes::first_newline;
 use item_reader::{LineFault, read_item};
 use item_tree::Item;
 use std::alloc::Global;
-
-fn first_line_feed(input: &[u8]) -> Option<usize>
-    ensures { result ≡ position (λ b. b == 10) input.now }
-{
-    input.iter().position(|b| *b == b'\n')
-}
 
 // The first line, and what stands behind its line feed, where it has one.
 fn split_line(input: &[u8]) -> (&[u8], Option<&[u8]>)
     ensures line { cut input.now ≡ result.0.now ∷ lines_of (option_copied result.1) }
     ensures shorter { left_length (option_copied result.1) ≤ length input.now }
 {
-    match first_line_feed(input) {
+    match first_newline(input) {
         Some(end) => (&input[..end], Some(&input[end + 1..])),
         None => (input, None),
     }

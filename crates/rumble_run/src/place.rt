@@ -1,6 +1,8 @@
 ghost use Rattle.std.specs.Prelude.{◌≡◌, ◌≤◌, ◌==◌, not, length, count_by, reverse, take_while};
 ghost use Rattle.rumble_run.specs.Place.{begins_character, line_of, column_of};
 
+use byte_lanes::count_newlines;
+
 /// A place in a text, as it is printed: both numbers count from 1, and the column counts
 /// characters.
 #[derive(Clone, Copy, Debug)]
@@ -17,15 +19,9 @@ pub(crate) fn line_column(text: &[u8], offset: u32) -> LineColumn
     let offset = (offset as usize).min(text.len());
     let before = &text[..offset];
     LineColumn {
-        line: line_feeds(before) as u64 + 1,
+        line: count_newlines(before) as u64 + 1,
         column: last_characters(before) as u64 + 1,
     }
-}
-
-fn line_feeds(text: &[u8]) -> usize
-    ensures { result ≡ count_by (λ b. b == 10) text.now }
-{
-    text.iter().filter(|b| **b == b'\n').count()
 }
 
 // Whether a byte is the first of a character.

@@ -317,6 +317,31 @@ fn refuses_queries(rt: HostRuntime) -> Result<(), Fail> {
     assert_refused(&rt, alloc, "run", &marked, "PJST0005 at 1:1")
 }
 
+// The place of a byte that begins no token, behind so many spaces and then so many line feeds: with
+// both, they are within 32 bytes, on either side of the end of 32, and behind 64.
+#[test]
+fn places_refusals_behind_lines(rt: HostRuntime) -> Result<(), Fail> {
+    let alloc = rt.alloc();
+    let cases: [(usize, usize, &str); 10] = [
+        (0, 31, "XPST0003 at 32:1"),
+        (0, 32, "XPST0003 at 33:1"),
+        (0, 33, "XPST0003 at 34:1"),
+        (0, 64, "XPST0003 at 65:1"),
+        (0, 65, "XPST0003 at 66:1"),
+        (0, 100, "XPST0003 at 101:1"),
+        (30, 1, "XPST0003 at 2:1"),
+        (31, 2, "XPST0003 at 3:1"),
+        (64, 3, "XPST0003 at 4:1"),
+        (64, 0, "XPST0003 at 1:65"),
+    ];
+    for (spaces, feeds, at) in cases {
+        let mut query = repeated(alloc, (b' ', spaces), (b'\n', feeds))?;
+        query.push(b'~')?;
+        assert_refused(&rt, alloc, "check", &query, at)?;
+    }
+    Ok(())
+}
+
 // What a run raises, at the place of `json-lines`, and what it prints.
 #[test]
 fn reads_the_named_input(rt: HostRuntime) -> Result<(), Fail> {
