@@ -7,7 +7,7 @@ ghost use Rattle.rumble_run.specs.inside.Cuts.{lines_of, left_length};
 
 use crate::mark::without_mark;
 use byte_lanes::first_newline;
-use item_reader::{LineFault, read_item};
+use item_reader::{LineFault, Reader};
 use item_tree::Item;
 use std::alloc::Global;
 
@@ -28,10 +28,11 @@ pub(crate) fn read_items(alloc: Global, input: &[u8]) -> Result<Vec<Item>, LineF
     ensures fault { IfErr result (λ f. IfSome (code_of f) (λ c. items_of input.now ≡ Err c)) }
 {
     let mut items = Vec::new(alloc);
+    let mut reader = Reader::new(alloc);
     let mut left = Some(without_mark(input));
     'reading: while let Some(bytes) = left {
         let (line, behind) = split_line(bytes);
-        if let Some(item) = read_item(alloc, line)? {
+        if let Some(item) = reader.read(line)? {
             items.push(item)?;
         }
         left = behind;
