@@ -128,6 +128,36 @@ fn prints_the_items(rt: HostRuntime) -> Result<(), Fail> {
     Ok(())
 }
 
+// The line of a string of so many bytes, of which the one at this place is an escaped quote.
+fn push_quoted(input: &mut Vec<u8>, len: usize, place: usize) -> Result<(), Fail> {
+    input.push(b'"')?;
+    for i in 0..len {
+        input.extend_from_slice(if i == place { b"\\\"" } else { b"x" })?;
+    }
+    input.extend_from_slice(b"\"\n")?;
+    Ok(())
+}
+
+// Strings of each length up to 100, with an escaped quote at each place, are printed as they are
+// read.
+#[test]
+fn prints_escaped_quotes(rt: HostRuntime) -> Result<(), Fail> {
+    let alloc = rt.alloc();
+    let mut input = Vec::new(alloc);
+    for len in 0..101usize {
+        for place in 0..len + 1 {
+            push_quoted(&mut input, len, place)?;
+        }
+    }
+    let files = two_files(alloc, ONE_QUERY, &input)?;
+    assert!(rt; names_differ(&files));
+    let inputs = MemInputs::steady(alloc, files)?;
+    let left = run(&rt, alloc, &["run", "q"], inputs, (input.len(), 100))?;
+    assert_eq!(rt; left.out.bytes(), input.as_slice());
+    assert_eq!(rt; left.status, Status::Done);
+    Ok(())
+}
+
 // Inputs with a faulty line, and the code of the first.
 #[test]
 fn raises_the_first_fault(rt: HostRuntime) -> Result<(), Fail> {
