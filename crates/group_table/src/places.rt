@@ -1,6 +1,6 @@
 ghost use Rattle.std.specs.Prelude.{◌≡◌, IfOk, OnOk, OnErr};
 ghost use Rattle.std.specs.List.{position_or_len};
-ghost use Rattle.indexmap.specs.IndexSet.{insert_key};
+ghost use Rattle.indexmap.specs.IndexSet.{insert_key, hasher_of};
 
 use crate::group_key::GroupKey;
 use crate::seeded::Seeded;
@@ -12,6 +12,7 @@ pub(crate) fn place_of(
     places: &mut IndexSet<GroupKey, Seeded>,
     key: GroupKey,
 ) -> Result<usize, NoMemory>
+    ensures hasher { hasher_of places.new ≡ hasher_of places.old }
     ensures place { IfOk result
         (λ at. at ≡ position_or_len (⟦<GroupKey as PartialEq>⟧.eq key) places.old.keys) }
     ensures keys { OnOk result

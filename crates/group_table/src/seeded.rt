@@ -1,4 +1,3 @@
-ghost use Rattle.std.specs.Prelude.{◌≡◌};
 ghost use Rattle.std.specs.Hash.{le_bytes};
 ghost use Rattle.std.specs.Hash.DefaultHasher as sip;
 
@@ -8,25 +7,17 @@ use std::hash::{BuildHasher, DefaultHasher, Hasher};
 /// does not know it cannot choose them.
 #[derive(Clone, Copy, Debug)]
 pub(crate) struct Seeded {
-    begun: DefaultHasher,
-}
-
-impl Seeded {
-    pub(crate) fn new(seed: u64) -> Seeded
-        ensures { result.begun ≡ sip.write sip.initial (le_bytes 8 seed) }
-    {
-        let mut begun = DefaultHasher::new();
-        begun.write_u64(seed);
-        Seeded { begun }
-    }
+    pub(crate) seed: u64,
 }
 
 impl BuildHasher for Seeded {
     type Hasher = DefaultHasher;
 
-    ghost build_hasher = { λ s. s.begun };
+    ghost build_hasher = { λ s. sip.write sip.initial (le_bytes 8 s.seed) };
 
     fn build_hasher(&self) -> DefaultHasher {
-        self.begun
+        let mut hasher = DefaultHasher::new();
+        hasher.write_u64(self.seed);
+        hasher
     }
 }

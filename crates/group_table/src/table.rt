@@ -35,6 +35,7 @@ impl Model for GroupTable {
 
     ghost coded = { grouping_code };
 
+    ghost use Rattle.indexmap.specs.IndexSet.{hasher_of};
     ghost use Rattle.group_table.specs.inside.Views.{keyed_list};
     ghost use Rattle.group_table.specs.inside.Places.{ArePlaces};
     ghost use Rattle.group_table.specs.inside.Joins.{IsKept};
@@ -43,6 +44,7 @@ impl Model for GroupTable {
       width = a.width;
       keys = a.keys.items;
       joined = a.joined.items;
+      seed = (hasher_of a.places).seed;
       groups = keyed_list a.groups.items;
     } };
 
@@ -56,7 +58,7 @@ impl GroupTable {
     ghost use Rattle.tuple_rows.specs.Tuples.{sequences};
     ghost use Rattle.tuple_rows.specs.Keys.{Keyed, AllKeys, key_list};
     ghost use Rattle.group_table.specs.Groups.{group_rows};
-    ghost use Rattle.group_table.specs.Grouping.{Grouping, StandsFor, IsLike, AllBelow, finished};
+    ghost use Rattle.group_table.specs.Grouping.{Grouping, no_groups, StandsFor, IsLike, AllBelow, finished};
     ghost use Rattle.group_table.specs.inside.Joins.{put, put_all, IsGroup};
     ghost use Rattle.group_table.specs.inside.Views.{entry_of};
 
@@ -65,8 +67,7 @@ impl GroupTable {
     pub fn new(alloc: Global, width: usize, keys: Vec<u32>, joined: Vec<u32>) -> GroupTable
         requires keys { AllBelow width keys.items }
         requires joined { AllBelow width joined.items }
-        ensures empty { result
-            ≡ record { width = width; keys = keys.items; joined = joined.items; groups = [] } }
+        ensures empty { result ≡ no_groups width keys.items joined.items 0 }
         ensures stands { StandsFor result [] }
     {
         GroupTable::seeded(alloc, width, keys, joined, 0)
@@ -83,8 +84,7 @@ impl GroupTable {
     ) -> GroupTable
         requires keys { AllBelow width keys.items }
         requires joined { AllBelow width joined.items }
-        ensures empty { result
-            ≡ record { width = width; keys = keys.items; joined = joined.items; groups = [] } }
+        ensures empty { result ≡ no_groups width keys.items joined.items seed }
         ensures stands { StandsFor result [] }
     {
         GroupTable {
@@ -92,7 +92,7 @@ impl GroupTable {
             width,
             keys,
             joined,
-            places: IndexSet::with_hasher(alloc, Seeded::new(seed)),
+            places: IndexSet::with_hasher(alloc, Seeded { seed }),
             groups: Vec::new(alloc),
         }
     }

@@ -47,7 +47,7 @@ fn tuple(alloc: Global, n: u8) -> Result<Tuple, Fail>
 // No groups of tuples with a key in slot 1, whose slot 2 is joined.
 fn empty(alloc: Global) -> Result<GroupTable, Fail>
     ensures { IfOk result (λ t. t
-        ≡ record { width = 3; keys = 1 ∷ []; joined = 2 ∷ []; groups = t.groups }) }
+        ≡ record { width = 3; keys = 1 ∷ []; joined = 2 ∷ []; seed = 0; groups = t.groups }) }
 {
     let keys = vec![in alloc; 1]?;
     let joined = vec![in alloc; 2]?;
@@ -57,7 +57,7 @@ fn empty(alloc: Global) -> Result<GroupTable, Fail>
 // The groups of tuples numbered from 1, with the keys that the letters stand for.
 fn grouped(alloc: Global, letters: &str) -> Result<GroupTable, Fail>
     ensures { IfOk result (λ t. t
-        ≡ record { width = 3; keys = 1 ∷ []; joined = 2 ∷ []; groups = t.groups }) }
+        ≡ record { width = 3; keys = 1 ∷ []; joined = 2 ∷ []; seed = 0; groups = t.groups }) }
 {
     let mut table = empty(alloc)?;
     let mut n = 0u8;
