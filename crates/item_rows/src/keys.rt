@@ -31,31 +31,69 @@ fn keyed(item: Item, class: Class, rank: u8) -> Result<Row, Fail>
     })
 }
 
-fn text_row(alloc: Global, text: &str, rank: u8) -> Result<Row, Fail> {
-    keyed(Item::Text(Str::of(alloc, text)?), Class::Text, rank)
+fn add(rows: &mut Vec<Row>, item: Item, class: Class, rank: u8) -> Result<(), Fail>
+    requires { IsAtomic (datum item) }
+{
+    rows.push(keyed(item, class, rank)?)?;
+    Ok(())
+}
+
+fn add_constants(rows: &mut Vec<Row>) -> Result<(), Fail> {
+    add(rows, Item::Null, Class::Null, 0)?;
+    add(rows, Item::Bool(false), Class::Boolean, 1)?;
+    add(rows, Item::Bool(true), Class::Boolean, 2)
+}
+
+fn add_numbers(rows: &mut Vec<Row>) -> Result<(), Fail> {
+    add(rows, Item::Int(Whole::new(-1)), Class::Number, 3)?;
+    add(rows, Item::Dec(Units::new(-1)), Class::Number, 4)?;
+    add(rows, Item::Int(Whole::new(1)), Class::Number, 5)?;
+    add(rows, Item::Dec(Units::new(1_000_000)), Class::Number, 5)?;
+    add(rows, Item::Dec(Units::new(1_000_001)), Class::Number, 6)
+}
+
+fn add_texts(alloc: Global, rows: &mut Vec<Row>) -> Result<(), Fail> {
+    add(rows, Item::Text(Str::of(alloc, "")?), Class::Text, 7)?;
+    add(rows, Item::Text(Str::of(alloc, "1")?), Class::Text, 8)?;
+    add(
+        rows,
+        Item::Text(Str::of(alloc, "2000-02-29 and more")?),
+        Class::Text,
+        9,
+    )?;
+    add(rows, Item::Text(Str::of(alloc, "true")?), Class::Text, 10)
+}
+
+fn add_dates(rows: &mut Vec<Row>, days: (Day, Day)) -> Result<(), Fail> {
+    add(rows, Item::Date(days.0), Class::Date, 11)?;
+    add(rows, Item::Date(days.1), Class::Date, 12)?;
+    add(
+        rows,
+        Item::DateTime(Moment::new(days.0, 0)),
+        Class::DateTime,
+        13,
+    )?;
+    add(
+        rows,
+        Item::DateTime(Moment::new(days.0, 1)),
+        Class::DateTime,
+        14,
+    )?;
+    add(
+        rows,
+        Item::DateTime(Moment::new(days.1, 0)),
+        Class::DateTime,
+        15,
+    )
 }
 
 // One or more atomics of each class.
 fn rows(alloc: Global, days: (Day, Day)) -> Result<Vec<Row>, Fail> {
-    let mut rows = vec![in alloc;
-        keyed(Item::Null, Class::Null, 0)?,
-        keyed(Item::Bool(false), Class::Boolean, 1)?,
-        keyed(Item::Bool(true), Class::Boolean, 2)?,
-        keyed(Item::Int(Whole::new(-1)), Class::Number, 3)?,
-        keyed(Item::Dec(Units::new(-1)), Class::Number, 4)?,
-        keyed(Item::Int(Whole::new(1)), Class::Number, 5)?,
-        keyed(Item::Dec(Units::new(1_000_000)), Class::Number, 5)?,
-        keyed(Item::Dec(Units::new(1_000_001)), Class::Number, 6)?,
-    ]?;
-    rows.push(text_row(alloc, "", 7)?)?;
-    rows.push(text_row(alloc, "1", 8)?)?;
-    rows.push(text_row(alloc, "2000-02-29 and more", 9)?)?;
-    rows.push(text_row(alloc, "true", 10)?)?;
-    rows.push(keyed(Item::Date(days.0), Class::Date, 11)?)?;
-    rows.push(keyed(Item::Date(days.1), Class::Date, 12)?)?;
-    rows.push(keyed(Item::DateTime(Moment::new(days.0, 0)), Class::DateTime, 13)?)?;
-    rows.push(keyed(Item::DateTime(Moment::new(days.0, 1)), Class::DateTime, 14)?)?;
-    rows.push(keyed(Item::DateTime(Moment::new(days.1, 0)), Class::DateTime, 15)?)?;
+    let mut rows = Vec::new(alloc);
+    add_constants(&mut rows)?;
+    add_numbers(&mut rows)?;
+    add_texts(alloc, &mut rows)?;
+    add_dates(&mut rows, days)?;
     Ok(rows)
 }
 

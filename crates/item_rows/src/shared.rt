@@ -1,5 +1,6 @@
 use crate::made::{numbered, one, samples};
-use item_tree::{Item, Str, array_of, deep_equal, object_of};
+use item_tree::{Item, Str, array_from, deep_equal, object_of};
+use std::alloc::Global;
 use std::test::Fail;
 
 // It would take minutes if a copy took time for each pair.
@@ -19,16 +20,33 @@ fn copies_large_objects(rt: HostRuntime) -> Result<(), Fail> {
     Ok(())
 }
 
+// The first of the samples, so many.
+fn first_samples(alloc: Global, count: usize) -> Result<Vec<Item>, Fail> {
+    let mut items = samples(alloc)?;
+    items.truncate(count);
+    Ok(items)
+}
+
+fn has_items(item: &Item, wanted: &[Item]) -> bool {
+    match item {
+        Item::Array(items) => deep_equal(items.as_slice(), wanted),
+        _ => false,
+    }
+}
+
+// Short arrays are held in other ways than long ones.
 #[test]
-fn gives_items_back(rt: HostRuntime) -> Result<(), Fail> {
+fn keeps_items_of_each_number(rt: HostRuntime) -> Result<(), Fail> {
     let alloc = rt.alloc();
-    let Item::Array(items) = array_of(alloc, samples(alloc)?)? else {
-        return Ok(());
-    };
-    let shared = items.copy()?;
-    assert_eq!(rt; items.as_slice().len(), 12);
-    assert_eq!(rt; shared.into_vec()?.len(), 12);
-    assert_eq!(rt; items.into_vec()?.len(), 12);
+    for count in 0..13 {
+        let wanted = first_samples(alloc, count)?;
+        let mut items = first_samples(alloc, count)?;
+        let array = array_from(alloc, &mut items)?;
+        assert!(rt; items.is_empty(), "{count} items");
+        assert!(rt; has_items(&array, wanted.as_slice()), "{count} items");
+        let copy = array.copy()?;
+        assert!(rt; has_items(&copy, wanted.as_slice()), "{count} items");
+    }
     Ok(())
 }
 

@@ -14,6 +14,7 @@ pub mod AsciiTexts
 pub mod FunctionNames
 mod DecimalDigits
 mod ShortTexts
+mod FrontLanes
 mod StringRows
 mod TextRows
 mod DayNumbers

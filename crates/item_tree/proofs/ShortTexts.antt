@@ -1,19 +1,17 @@
 -- Texts of at most fourteen bytes, with zeros behind them.
-use Rattle.std.proofs.Common.{◌≡◌, ℕ, zero, suc, ◌+◌, ◌-◌, ◌<◌, ◌≤◌, ⊎_elim, set, ◌==◌, ◌&&◌, Bool, true, List, [], ◌∷◌, ◌++◌, length, get_or, take, drop, replicate, sym, ap, subst, ◌∙◌, arith, length-take, length-drop, w64}
+use Rattle.std.proofs.Common.{◌≡◌, ℕ, zero, suc, ◌+◌, ◌-◌, ◌<◌, ◌≤◌, ◌==◌, ◌&&◌, Bool, true, List, [], ◌∷◌, ◌++◌, length, get_or, take, drop, replicate, sym, ap, subst, ◌∙◌, arith, length-take, length-drop, w64}
 use Rattle.std.specs.Int.{from_le_bytes, to_le_bytes}
 use Rattle.std.specs.Str.{bytes_eq, chars, IsUtf8, IsAscii}
 use Rattle.std.proofs.Math.Utf8.{encodes}
-use Rattle.std.proofs.lemmas.Bool.{cases_eq}
 use Rattle.std.proofs.lemmas.Bool.Decides.{nat_tests, same_from_decides}
-use Rattle.std.proofs.lemmas.List.{take-append-drop, drop-drop, get_or-drop, get_or-take, get_or-replicate, get_or-set_other, ext_get_or, length-replicate}
-use Rattle.std.proofs.lemmas.Grind.{get_or-set_at}
+use Rattle.std.proofs.lemmas.List.{take-append-drop, drop-drop, get_or-drop, get_or-take, get_or-replicate, ext_get_or, length-replicate}
 use Rattle.std.proofs.lemmas.Nat.{le_bytes_8}
 use Rattle.std.proofs.lemmas.Slice.Eq.{bytes_eq-Decides}
 use Rattle.std.proofs.lemmas.Str.{encodes-chars, IsUtf8-string_bytes, IsUtf8-from_ascii}
 use Rattle.std.specs.Arc.{arc_value}
 use Rattle.item_tree.specs.declared.str_bytes.StrBytes.{StrBytes}
 use Rattle.item_tree.specs.declared.str_bytes.StrBytes.TheVariants.{Short, Shared}
-use Rattle.item_tree.specs.inside.StrBytes.{IsShort, front_byte, IsFront, bytes_of, IsHeld}
+use Rattle.item_tree.specs.inside.StrBytes.{IsShort, IsFront, bytes_of, IsHeld}
 use Rattle.item_tree.proofs.Members.{both}
 
 -- what two words, of the first eight bytes and of the last eight, tell of the bytes
@@ -122,12 +120,3 @@ front_held n bytes front few room len kept ascii =
     zeros = ext_get_or 0 (drop n front) (replicate (14 - n) 0)
         (omega (arith, length-drop n front, length-replicate (14 - n) zero, len))
         (λ i p. behind i (omega (arith, length-drop n front, p, len)))
-
--- one more byte of a front
-pub front_longer : (n i : ℕ) (bytes kept : List ℕ) (v : ℕ) → i < length kept → v ≡ front_byte n bytes i
-    → ((k : ℕ) → k < i → get_or kept k 0 ≡ front_byte n bytes k)
-    → (k : ℕ) → k < i + 1 → get_or (set kept i v) k 0 ≡ front_byte n bytes k
-front_longer n i bytes kept v inside e before k p = ⊎_elim
-    (λ same. get_or-set_at kept i k v 0 same inside ∙ e ∙ ap (front_byte n bytes) (sym same))
-    (λ other. get_or-set_other kept i k v 0 other ∙ before k (omega (arith, p, other)))
-    (cases_eq k i)

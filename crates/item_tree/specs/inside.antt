@@ -3,5 +3,6 @@
 pub mod Written
 pub mod StrBytes
 pub mod DateOrder
+pub mod Held
 pub mod SameValues
 pub mod Words

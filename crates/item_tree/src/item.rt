@@ -5,7 +5,7 @@ mod pair_list;
 
 use crate::item::find::{place_among, value_at};
 use crate::{Day, Moment, NoMemory, Str, Units, Whole};
-pub use make::{array_of, object_of, object_of_distinct};
+pub use make::{array_from, array_of, object_of, object_of_distinct};
 pub use pair_list::PairList;
 use std::alloc::Global;
 use std::collections::BTreeMap;
@@ -28,18 +28,28 @@ pub enum Item {
     Object(Pairs),
 }
 
-/// The items of an array. Copies share one list. No array is more than 128 deep.
+/// The items of an array. Copies share one block. No array is more than 128 deep.
 #[cycle(item)]
 #[derive(Debug, Drop)]
 pub struct Items {
-    items: Arc<Vec<Item>, Global>,
-    depth: u8,
+    held: Held,
+}
+
+// How an array holds its items, behind its depth. A few stand beside the count of the copies, in
+// one block of memory in place of two: most arrays are short.
+#[cycle(item)]
+#[derive(Debug, Drop)]
+enum Held {
+    One(u8, Arc<[Item; 1], Global>),
+    Two(u8, Arc<[Item; 2], Global>),
+    Three(u8, Arc<[Item; 3], Global>),
+    Four(u8, Arc<[Item; 4], Global>),
+    Many(u8, Arc<Vec<Item>, Global>),
 }
 
 impl Model for Items {
     ghost use Rattle.std.specs.Prelude.{◌≡◌, List};
     ghost use Rattle.std.specs.Coded.{coded_list};
-    ghost use Rattle.std.specs.Arc.{arc_value};
     ghost use Rattle.item_tree.specs.Datum.{Datum, Sound, depth as depth_of, array_of_list};
     ghost use Rattle.item_tree.specs.DatumCode.{datum_code};
 
@@ -48,19 +58,20 @@ impl Model for Items {
     ghost coded = { coded_list datum_code };
 
     ghost use Rattle.item_tree.specs.Item.{datums};
+    ghost use Rattle.item_tree.specs.inside.Held.{items_in, depth_in};
 
-    ghost view = { λ a. datums (arc_value a.items).items };
+    ghost view = { λ a. datums (items_in a.held) };
 
     ghost invariant = { λ a.
-        (a.depth ≡ depth_of (array_of_list (datums (arc_value a.items).items)))
-        × Sound (array_of_list (datums (arc_value a.items).items)) };
+        (depth_in a.held ≡ depth_of (array_of_list (datums (items_in a.held))))
+        × Sound (array_of_list (datums (items_in a.held))) };
 
     ghost size = { λ vs. depth_of (array_of_list vs) };
 
     ghost use Rattle.std.proofs.Common.{arith};
-    ghost use Rattle.item_tree.specs.Falls.{items_fall};
+    ghost use Rattle.item_tree.specs.Falls.{held_falls};
 
-    ghost size_decreases = { λ a h. omega (arith, items_fall (arc_value a.items).items) };
+    ghost size_decreases = { λ a h. omega (arith, held_falls a.held) };
 }
 
 /// The pairs of an object in order of insertion, with different keys. Copies share one list. No
@@ -109,8 +120,37 @@ impl Model for Pairs {
     ghost size_decreases = { λ a h. omega (arith, pairs_fall (arc_value a.shared).pairs.items) };
 }
 
+impl Held {
+    ghost use Rattle.std.specs.Prelude.{◌≡◌};
+    ghost use Rattle.item_tree.specs.inside.Held.{items_in, depth_in};
+
+    fn as_slice(&self) -> &[Item]
+        ensures { result.now ≡ items_in self.now }
+    {
+        match self {
+            Held::One(_, items) => items.as_slice(),
+            Held::Two(_, items) => items.as_slice(),
+            Held::Three(_, items) => items.as_slice(),
+            Held::Four(_, items) => items.as_slice(),
+            Held::Many(_, items) => items.as_slice(),
+        }
+    }
+
+    fn depth(&self) -> u8
+        ensures { result ≡ depth_in self.now }
+    {
+        match self {
+            Held::One(depth, _) => *depth,
+            Held::Two(depth, _) => *depth,
+            Held::Three(depth, _) => *depth,
+            Held::Four(depth, _) => *depth,
+            Held::Many(depth, _) => *depth,
+        }
+    }
+}
+
 impl Items {
-    ghost use Rattle.std.specs.Prelude.{◌≡◌, IfOk};
+    ghost use Rattle.std.specs.Prelude.{◌≡◌};
     ghost use Rattle.item_tree.specs.Datum.{Sound, array_of_list};
     ghost use Rattle.item_tree.specs.Item.{datums};
 
@@ -119,15 +159,7 @@ impl Items {
         ensures value { datums result.now ≡ self.now }
         ensures sound { Sound (array_of_list self.now) }
     {
-        self.items.as_slice()
-    }
-
-    /// The items as a list of the caller's own. They are copied only where the list is shared.
-    pub fn into_vec(self) -> Result<Vec<Item>, NoMemory>
-        ensures { IfOk result (λ v. datums v.items ≡ self) }
-    {
-        let Items { items, depth: _ } = self;
-        Ok(Arc::unwrap_or_clone(items)?)
+        self.held.as_slice()
     }
 }
 
@@ -216,7 +248,7 @@ impl Item {
                 let _day = moment.day();
                 0
             }
-            Item::Array(items) => items.depth,
+            Item::Array(items) => items.held.depth(),
             Item::Object(pairs) => pairs.depth,
         }
     }

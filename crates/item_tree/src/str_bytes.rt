@@ -2,9 +2,10 @@ ghost use Rattle.std.specs.Prelude.{◌≡◌, ◌+◌, ◌<◌, ◌≤◌, leng
 ghost use Rattle.std.specs.Int.{w64, from_le_bytes};
 ghost use Rattle.std.specs.Str.{bytes_eq, IsAscii};
 ghost use Rattle.std.specs.String.{string_bytes};
-ghost use Rattle.item_tree.specs.inside.StrBytes.{bytes_of, IsHeld, front_byte as front_byte_of, IsFront};
+ghost use Rattle.item_tree.specs.inside.StrBytes.{bytes_of, IsHeld, IsFront};
 
 use std::alloc::{AllocError, Global};
+use std::simd::prelude::*;
 use std::str;
 use std::sync::Arc;
 
@@ -30,27 +31,28 @@ fn short(text: &str) -> StrBytes
     StrBytes::Short(text.len() as u8, bytes)
 }
 
-// A byte of the front, or zero behind it.
+// So many bytes of the front, and zeros behind them. All lanes are chosen at once, so it takes no
+// branch on the length.
 #[inline(always)]
-fn front_byte(bytes: &[u8], len: usize, i: usize) -> u8
-    requires { i < length bytes.now }
-    ensures { result ≡ front_byte_of len bytes.now i }
-{
-    if i < len { bytes[i] } else { 0 }
-}
-
-// So many bytes of the front, and zeros behind them: as each byte is chosen alone, all are at once.
-#[inline(always)]
-fn front_bytes(bytes: &[u8], len: usize) -> [u8; SHORT]
-    requires { 16 ≤ length bytes.now }
+fn front_lanes(bytes: &[u8], len: usize) -> u8x16
+    requires few { len ≤ 14 }
+    requires room { 16 ≤ length bytes.now }
     ensures { IsFront len bytes.now result }
 {
-    let mut kept = [0u8; 16];
-    for i in 0..16 {
-        kept[i] = front_byte(bytes, len, i);
-    }
+    let places = u8x16::from_array([0, 1, 2, 3, 4, 5, 6, 7, 8, 9, 10, 11, 12, 13, 14, 15]);
+    let kept = places.simd_lt(u8x16::splat(len as u8));
+    kept.select(u8x16::from_slice(bytes), u8x16::splat(0))
+}
+
+#[inline(always)]
+fn front_bytes(bytes: &[u8], len: usize) -> [u8; SHORT]
+    requires few { len ≤ 14 }
+    requires room { 16 ≤ length bytes.now }
+    ensures { IsFront len bytes.now result }
+{
+    let lanes = front_lanes(bytes, len).to_array();
     let mut front = [0u8; SHORT];
-    front.copy_from_slice(&kept[..SHORT]);
+    front.copy_from_slice(&lanes[..SHORT]);
     front
 }
 

@@ -1,4 +1,4 @@
-use super::{Item, Items, Pairs};
+use super::{Held, Item, Items, Pairs};
 use crate::NoMemory;
 use std::alloc::AllocError;
 use std::sync::Arc;
@@ -39,17 +39,33 @@ impl Item {
     }
 }
 
+impl Held {
+    ghost use Rattle.std.specs.Prelude.{◌≡◌, IfOk};
+    ghost use Rattle.item_tree.specs.inside.Held.{items_in, depth_in};
+
+    // The same, with the same block.
+    fn share(&self) -> Result<Held, AllocError>
+        ensures { IfOk result (λ h.
+            (items_in h ≡ items_in self.now) × (depth_in h ≡ depth_in self.now)) }
+    {
+        match self {
+            Held::One(depth, items) => Ok(Held::One(*depth, Arc::try_clone(items)?)),
+            Held::Two(depth, items) => Ok(Held::Two(*depth, Arc::try_clone(items)?)),
+            Held::Three(depth, items) => Ok(Held::Three(*depth, Arc::try_clone(items)?)),
+            Held::Four(depth, items) => Ok(Held::Four(*depth, Arc::try_clone(items)?)),
+            Held::Many(depth, items) => Ok(Held::Many(*depth, Arc::try_clone(items)?)),
+        }
+    }
+}
+
 impl Clone for Items {
     ghost use Rattle.std.specs.Prelude.{◌≡◌};
 
     ghost is_clone = { λ a b. b ≡ a };
 
     fn clone(&self) -> Result<Items, AllocError> {
-        let items = Arc::try_clone(&self.items)?;
-        Ok(Items {
-            items,
-            depth: self.depth,
-        })
+        let held = self.held.share()?;
+        Ok(Items { held })
     }
 }
 

@@ -1,12 +1,13 @@
-ghost use Rattle.std.specs.Prelude.{◌≡◌, IfOk, option_map};
+ghost use Rattle.std.specs.Prelude.{◌≡◌, ◌<◌, ◌++◌, ◌∷◌, [], IfOk, length, option_map};
 ghost use Rattle.std.specs.Arc.{arc_value};
 ghost use Rattle.item_tree.specs.Datum.{AllSound, MembersSound, values, members, array_of_list, object_of_pairs, depth as depth_of};
 ghost use Rattle.item_tree.specs.Item.{datums, pair_datums};
 ghost use Rattle.item_tree.specs.Lookup.{IsIndexed};
+ghost use Rattle.item_tree.specs.inside.Held.{items_in, depth_in};
 ghost use Rattle.item_tree.specs.Made.{MakesArray, MakesObject, MakesDistinct};
 
 use super::pair_list::PairList;
-use super::{Item, Items, Pairs, Shared};
+use super::{Held, Item, Items, Pairs, Shared};
 use crate::{MakeFault, NoMemory, Str};
 use std::alloc::Global;
 use std::collections::BTreeMap;
@@ -18,12 +19,80 @@ use std::sync::Arc;
 pub fn array_of(alloc: Global, items: Vec<Item>) -> Result<Item, MakeFault>
     ensures { MakesArray (datums items.items) result }
 {
+    let mut items = items;
+    array_from(alloc, &mut items)
+}
+
+/// The array of these items. None of them are left in the list, whatever the answer; its room is
+/// kept.
+///
+/// It is refused as too deep exactly where an item has depth 128.
+pub fn array_from(alloc: Global, items: &mut Vec<Item>) -> Result<Item, MakeFault>
+    ensures made { MakesArray (datums items.old.items) result }
+    ensures left { items.new.items ≡ [] }
+{
     let depth = array_depth(items.as_slice());
     if depth > 128 {
+        items.clear();
         return Err(MakeFault::TooDeep);
     }
-    let items = Arc::new(alloc, items)?;
-    Ok(Item::Array(Items { items, depth }))
+    let held = held_from(alloc, depth, items)?;
+    Ok(Item::Array(Items { held }))
+}
+
+// Takes the items of a list, which keeps its room.
+fn held_from(alloc: Global, depth: u8, items: &mut Vec<Item>) -> Result<Held, NoMemory>
+    ensures held { IfOk result (λ h. (items_in h ≡ items.old.items) × (depth_in h ≡ depth)) }
+    ensures left { items.new.items ≡ [] }
+{
+    match items.len() {
+        1 => Ok(Held::One(depth, Arc::new(alloc, [take_last(items)])?)),
+        2 => {
+            let second = take_last(items);
+            let first = take_last(items);
+            Ok(Held::Two(depth, Arc::new(alloc, [first, second])?))
+        }
+        3 => {
+            let third = take_last(items);
+            let second = take_last(items);
+            let first = take_last(items);
+            Ok(Held::Three(depth, Arc::new(alloc, [first, second, third])?))
+        }
+        4 => {
+            let fourth = take_last(items);
+            let third = take_last(items);
+            let second = take_last(items);
+            let first = take_last(items);
+            Ok(Held::Four(depth, Arc::new(alloc, [first, second, third, fourth])?))
+        }
+        _ => Ok(Held::Many(depth, Arc::new(alloc, take_all(items)?)?)),
+    }
+}
+
+// All items, as a list of their own without spare room.
+fn take_all(items: &mut Vec<Item>) -> Result<Vec<Item>, NoMemory>
+    ensures taken { IfOk result (λ v. v.items ≡ items.old.items) }
+    ensures left { items.new.items ≡ [] }
+{
+    match items.split_off(0) {
+        Ok(all) => Ok(all),
+        Err(_) => {
+            items.clear();
+            Err(NoMemory)
+        }
+    }
+}
+
+// The last item, which is there.
+#[inline(always)]
+fn take_last(items: &mut Vec<Item>) -> Item
+    requires { 0 < length items.old.items }
+    ensures { items.old.items ≡ items.new.items ++ result ∷ [] }
+{
+    match items.pop() {
+        Some(item) => item,
+        None => unreachable!(),
+    }
 }
 
 /// The object of these pairs.

@@ -8,7 +8,7 @@ ghost use Rattle.item_tree.specs.Made.{MakesList};
 
 use super::Item;
 use super::find::{FEW, first_repeat, index_of, index_with, place_among, value_at};
-use crate::{MakeFault, NoMemory, Str};
+use crate::{MakeFault, NoMemory, Str, push_last};
 use std::alloc::Global;
 use std::collections::BTreeMap;
 use std::marker::Model;
@@ -138,6 +138,7 @@ impl PairList {
     {
         match self.place(&key) {
             Some(at) => {
+                drop(key);
                 put_at(&mut self.pairs, at, value);
                 Ok(())
             }
@@ -153,7 +154,7 @@ impl PairList {
         ensures err { OnErr result (self.new ≡ self.old) }
     {
         if self.places.is_none() && self.pairs.len() < FEW {
-            self.pairs.push((key, value))?;
+            push_last(&mut self.pairs, (key, value))?;
             return Ok(());
         }
         self.push_indexed(alloc, key, value)

@@ -5,7 +5,6 @@ use Rattle.item_tree.specs.Lookup.{place_of, put, IsIndexed}
 use Rattle.item_tree.proofs.Places.{place_inside_pairs}
 use Rattle.item_tree.proofs.Puts.{put_last, indexed_put}
 use Rattle.item_tree.proofs.item.pair_list.PairList.put.Goals as goal
-use Rattle.item_tree.proofs.item.pair_list.PairList.put.Goals.{in-Shared-1, in-Short-1}
 
 pub put_at-requires : goal.put_at-requires
 put_at-requires c =
@@ -17,16 +16,10 @@ invariant_of-self c =
     let e : Some c.in-Some.at ≡ place_of c.args.key (pair_datums c.self.inside.pairs.items) = c.in-Some.ensures ∙ ap (place_of c.args.key) (sym c.self.view_is) in
     subst (IsIndexed c.self.inside.places) (sym (c.put_at.ensures c.args.key e)) (indexed_put c.self.inside.places c.args.key (datum c.args.value) _ c.in-Some.at e c.self.invariant)
 
-pub invariant_of-self-in-Some-2 : goal.invariant_of-self-in-Some-2
-invariant_of-self-in-Some-2 c =
-    let e : Some c.in-Some.at ≡ place_of c.args.key (pair_datums c.self.inside.pairs.items) = c.in-Some.ensures ∙ ap (place_of c.args.key) (sym c.self.view_is) in
-    subst (IsIndexed c.self.inside.places) (sym (c.put_at.ensures c.args.key e)) (indexed_put c.self.inside.places c.args.key (datum c.args.value) _ c.in-Some.at e c.self.invariant)
-
 pub returns-in-Some-clause-ok : goal.returns-in-Some-clause-ok
 returns-in-Some-clause-ok c =
     let e : Some c.in-Some.at ≡ place_of c.args.key (pair_datums c.self.inside.pairs.items) = c.in-Some.ensures ∙ ap (place_of c.args.key) (sym c.self.view_is) in
-    let done = c.put_at.ensures c.args.key e ∙ ap (put c.args.key (datum c.args.value)) c.self.view_is in
-    elim c.match-key.branch [ in-Shared-1 w ↦ w.self-is ∙ done | in-Short-1 w ↦ w.self-is ∙ done ]
+    c.put_at.ensures c.args.key e ∙ ap (put c.args.key (datum c.args.value)) c.self.view_is
 
 pub returns-in-None-clause-ok : goal.returns-in-None-clause-ok
 returns-in-None-clause-ok c =

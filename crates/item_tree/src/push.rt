@@ -1,0 +1,18 @@
+ghost use Rattle.std.specs.Prelude.{◌≡◌, ◌++◌, ◌∷◌, [], OnOk, OnErr};
+
+use crate::NoMemory;
+
+/// One more value goes last in a list, without a call where there is room. Where memory runs out
+/// the list stays as it was.
+#[inline(always)]
+pub fn push_last<T: Drop>(list: &mut Vec<T>, value: T) -> Result<(), NoMemory>
+    ensures ok { OnOk result (list.new.items ≡ list.old.items ++ value ∷ []) }
+    ensures err { OnErr result (list.new.items ≡ list.old.items) }
+{
+    if list.len() < list.capacity() {
+        list.push_reserved(value);
+        return Ok(());
+    }
+    list.push(value)?;
+    Ok(())
+}
