@@ -6,7 +6,9 @@ ghost use Rattle.item_tree.specs.Item.{datum, datums};
 ghost use Rattle.item_reader.specs.Levels.{value_of, frame_of, empty_frame, frames_of, add_inside, key_inside, with_first, HasRoom, Opens, OnLast, Closes, ClosesTo};
 ghost use Rattle.json_text.specs.inside.Fits.{AllFit, PairsFit, FrameFits, FramesFit};
 
-use item_tree::{Item, MakeFault, NoMemory, PairList, Str, array_of, object_of_distinct};
+use item_tree::{
+    Item, MakeFault, NoMemory, PairList, Str, array_from, object_of_distinct, push_last,
+};
 use std::alloc::Global;
 use std::marker::Model;
 
@@ -43,11 +45,11 @@ impl Model for Levels {
     ghost invariant = { λ a. a.depth ≤ length a.levels.items };
 }
 
-fn array_item(alloc: Global, items: Vec<Item>) -> Result<Item, NoMemory>
-    requires { (n : ℕ) × AllFit (n + 1) (datums items.items) }
-    ensures { IfOk result (λ x. datum x ≡ array_of_list (datums items.items)) }
+fn array_item(alloc: Global, items: &mut Vec<Item>) -> Result<Item, NoMemory>
+    requires { (n : ℕ) × AllFit (n + 1) (datums items.old.items) }
+    ensures { IfOk result (λ x. datum x ≡ array_of_list (datums items.old.items)) }
 {
-    match array_of(alloc, items) {
+    match array_from(alloc, items) {
         Ok(item) => Ok(item),
         Err(MakeFault::NoMemory) => Err(NoMemory),
         Err(MakeFault::TooDeep) => unreachable!(),
@@ -97,8 +99,7 @@ impl Level {
         ensures { OnOk result (frame_of self.new ≡ add_inside (datum item) (frame_of self.old)) }
     {
         if self.is_array {
-            self.items.push(item)?;
-            return Ok(());
+            return push_last(&mut self.items, item);
         }
         match self.key.take() {
             Some(key) => self.pairs.put(alloc, key, item),
@@ -115,14 +116,13 @@ impl Level {
         }
     }
 
-    // The item of a container that closes. Its list has no spare room.
+    // The item of a container that closes, without spare room.
     fn item(&mut self, alloc: Global) -> Result<Item, NoMemory>
         requires { (n : ℕ) × FrameFits n (frame_of self.old) }
         ensures { IfOk result (λ x. datum x ≡ value_of (frame_of self.old)) }
     {
         if self.is_array {
-            let items = self.items.split_off(0)?;
-            array_item(alloc, items)
+            array_item(alloc, &mut self.items)
         } else {
             let pairs = self.pairs.take()?;
             object_item(alloc, pairs)
