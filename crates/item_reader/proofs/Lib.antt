@@ -1,6 +1,7 @@
 pub mod Uncons
 pub mod TokenSteps
 pub mod NumberSteps
+pub mod EscapeTexts
 pub mod StringSteps
 pub mod LevelSteps
 pub mod Frames

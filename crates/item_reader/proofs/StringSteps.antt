@@ -1,8 +1,8 @@
 -- Steps through a string, and what they leave to spell.
 use Rattle.std.specs.Prelude.{◌≡◌, ℕ, suc, ◌+◌, Bool, true, false, List, [], ◌∷◌, ◌++◌, take, drop, Some, None, refl}
 use Rattle.std.specs.List.{prefix_len, list_all}
-use Rattle.std.specs.Str.{chars, IsUtf8, is_utf8}
-use Rattle.std.proofs.lemmas.Str.{IsUtf8-from_is_utf8, is_utf8-from_IsUtf8}
+use Rattle.std.specs.Str.{chars, IsUtf8, IsAscii, is_utf8}
+use Rattle.std.proofs.lemmas.Str.{IsUtf8-from_is_utf8, is_utf8-from_IsUtf8, IsUtf8-append, IsUtf8-from_ascii}
 use Rattle.std.proofs.lemmas.List.{take-append-drop}
 use Rattle.std.proofs.Common.{sym, ◌∙◌, ap, subst, arith, append-nil}
 use Rattle.std.proofs.lemmas.Bool.{cond_both, and_from, ne_eqb}
@@ -42,6 +42,15 @@ pub stretch : (bytes left new raw rest : List ℕ) (whole : Part (List ℕ)) →
 stretch bytes left new raw rest whole a b c h =
     let n = prefix_len is_raw left in
     rw (a, b, c) (sym (after_after bytes (take n left) (string_at (drop n left))) ∙ ap (after_bytes bytes) (sym (raw_taken left)) ∙ h)
+
+pub stretch_of : (bytes left new raw rest : List ℕ) (n : ℕ) (whole : Part (List ℕ)) → n ≡ prefix_len is_raw left → new ≡ bytes ++ raw → raw ≡ take n left → rest ≡ drop n left → after_bytes bytes (string_at left) ≡ whole → after_bytes new (string_at rest) ≡ whole
+stretch_of bytes left new raw rest n whole e a b c h = stretch bytes left new raw rest whole a (b ∙ ap (λ k. take k left) e) (c ∙ ap (λ k. drop k left) e) h
+
+pub stretch_stops : (left rest : List ℕ) (n : ℕ) → n ≡ prefix_len is_raw left → rest ≡ drop n left → begins is_raw rest ≡ false
+stretch_stops left rest n e c = ap (begins is_raw) (c ∙ ap (λ k. drop k left) e) ∙ stretch_ends left
+
+pub text_grows : (bytes left new raw : List ℕ) (n : ℕ) → new ≡ bytes ++ raw → raw ≡ take n left → IsUtf8 bytes × IsAscii (take n left) → IsUtf8 new
+text_grows bytes left new raw n a b h = subst IsUtf8 (sym a) (IsUtf8-append bytes raw h.0 (subst IsUtf8 (sym b) (IsUtf8-from_ascii (take n left) h.1)))
 
 -- ---- what ends a stretch
 

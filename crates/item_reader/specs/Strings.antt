@@ -1,6 +1,10 @@
 -- How the code reads a string, whose opening quote is before the line.
 use denote.Ref.{Bor}
-use Rattle.std.specs.Prelude.{◌≡◌, ◌<◌, ℕ, suc, List, [], ◌∷◌, length, Option, None, option_map, IfSome, MatchOption}
+use Rattle.std.specs.Prelude.{◌≡◌, ◌<◌, ℕ, suc, Bool, List, [], ◌∷◌, length, take, Option, None, option_map, IfSome, MatchOption}
+use Rattle.std.specs.Char.{is_ascii}
+use Rattle.std.specs.List.{list_all, prefix_len}
+use Rattle.std.specs.Str.{IsUtf8}
+use Rattle.item_tree.specs.JsonString.{is_raw}
 use Rattle.json_text.specs.inside.Scan.{string_at, after_bytes}
 use Rattle.json_text.specs.inside.Machine as m
 
@@ -26,3 +30,12 @@ IsPastEscape line old new o =
 
 abbrev pub IsShorter : List ℕ → Option (Bor (List ℕ)) → Type 0
 IsShorter line o = IfSome o (λ left. length left.now < suc (length line))
+
+-- so many bytes in front stand for themselves, the next one does not, and this is whether all of
+-- them are ASCII
+abbrev pub IsStretch : List ℕ → ℕ → Bool → Type 0
+IsStretch line n ascii = (n ≡ prefix_len is_raw line) × (ascii ≡ list_all is_ascii (take n line))
+
+-- bytes that were UTF-8 are so behind an escape too
+abbrev pub StaysText : List ℕ → List ℕ → Option (Bor (List ℕ)) → Type 0
+StaysText old new o = IfSome o (λ left. IsUtf8 old → IsUtf8 new)

@@ -6,9 +6,7 @@ ghost use Rattle.item_tree.specs.Item.{datum, datums};
 ghost use Rattle.item_reader.specs.Levels.{value_of, frame_of, empty_frame, frames_of, add_inside, key_inside, with_first, HasRoom, Opens, OnLast, Closes, ClosesTo};
 ghost use Rattle.json_text.specs.inside.Fits.{AllFit, PairsFit, FrameFits, FramesFit};
 
-use item_tree::{
-    Item, MakeFault, NoMemory, PairList, Str, array_from, object_of_distinct, push_last,
-};
+use item_tree::{Item, MakeFault, NoMemory, PairList, Str, array_from, object_from, push_last};
 use std::alloc::Global;
 use std::marker::Model;
 
@@ -57,11 +55,11 @@ fn array_item(alloc: Global, items: &mut Vec<Item>) -> Result<Item, NoMemory>
     }
 }
 
-fn object_item(alloc: Global, pairs: PairList) -> Result<Item, NoMemory>
-    requires { (n : ℕ) × PairsFit (n + 1) pairs }
-    ensures { IfOk result (λ x. datum x ≡ object_of_pairs pairs) }
+fn object_item(alloc: Global, pairs: &mut PairList) -> Result<Item, NoMemory>
+    requires { (n : ℕ) × PairsFit (n + 1) pairs.old }
+    ensures { IfOk result (λ x. datum x ≡ object_of_pairs pairs.old) }
 {
-    match object_of_distinct(alloc, pairs) {
+    match object_from(alloc, pairs) {
         Ok(item) => Ok(item),
         Err(MakeFault::NoMemory) => Err(NoMemory),
         Err(MakeFault::TooDeep) => unreachable!(),
@@ -124,8 +122,7 @@ impl Level {
         if self.is_array {
             array_item(alloc, &mut self.items)
         } else {
-            let pairs = self.pairs.take()?;
-            object_item(alloc, pairs)
+            object_item(alloc, &mut self.pairs)
         }
     }
 }

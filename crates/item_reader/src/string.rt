@@ -1,8 +1,8 @@
 //! Strings, taken from the front of a text.
 
-ghost use Rattle.std.specs.Prelude.{◌≡◌, true, IfOk, IfSome, MatchOption};
-ghost use Rattle.std.specs.Str.{IsAscii, IsUtf8};
-ghost use Rattle.item_reader.specs.Strings.{IsText, FindsText, Spells, IsPastEscape, IsShorter};
+ghost use Rattle.std.specs.Prelude.{◌≡◌, true, IfOk, IfSome, IfNone, option_map};
+ghost use Rattle.std.specs.Str.{IsUtf8};
+ghost use Rattle.item_reader.specs.Strings.{IsText, FindsText, Spells, IsPastEscape, IsShorter, StaysText, IsStretch};
 
 use crate::token::uncons;
 use byte_lanes::string_front;
@@ -15,6 +15,7 @@ use std::str;
 fn push_escape<'a>(bytes: &mut Vec<u8>, line: &'a [u8]) -> Result<Option<&'a [u8]>, NoMemory>
     ensures value { IfOk result (IsPastEscape line.now bytes.old.items bytes.new.items) }
     ensures shorter { IfOk result (IsShorter line.now) }
+    ensures text { IfOk result (StaysText bytes.old.items bytes.new.items) }
 {
     let Some((spelled, rest)) = escape_at(line) else {
         return Ok(None);
@@ -23,21 +24,30 @@ fn push_escape<'a>(bytes: &mut Vec<u8>, line: &'a [u8]) -> Result<Option<&'a [u8
     Ok(Some(rest))
 }
 
-// The content up to the closing quote goes into the bytes, in place of what they were, and this is
-// what is behind it.
-fn string<'a>(bytes: &mut Vec<u8>, line: &'a [u8]) -> Result<Option<&'a [u8]>, NoMemory>
-    ensures { IfOk result (λ o. Spells line.now bytes.new.items o) }
+// The content up to the closing quote goes into the bytes, in place of what they were. This is what
+// is behind it, and whether the content is known to be UTF-8.
+fn string<'a>(
+    bytes: &mut Vec<u8>,
+    line: &'a [u8],
+    len: usize,
+    ascii: bool,
+) -> Result<Option<(&'a [u8], bool)>, NoMemory>
+    requires { IsStretch line.now len ascii }
+    ensures value { IfOk result (λ o. Spells line.now bytes.new.items (option_map (λ p. p.0) o)) }
+    ensures text { IfOk result (λ o. IfSome o (λ p. p.1 ≡ true → IsUtf8 bytes.new.items)) }
 {
     bytes.clear();
     let mut left = line;
+    let mut len = len;
+    let mut is_text = ascii;
     'stretches: loop {
-        let (raw, behind) = left.split_at(string_front(left).0);
+        let (raw, behind) = left.split_at(len);
         bytes.extend_from_slice(raw)?;
         let Some((mark, rest)) = uncons(behind) else {
             return Ok(None);
         };
         if mark == b'"' {
-            return Ok(Some(rest));
+            return Ok(Some((rest, is_text)));
         }
         if mark != b'\\' {
             return Ok(None);
@@ -46,15 +56,19 @@ fn string<'a>(bytes: &mut Vec<u8>, line: &'a [u8]) -> Result<Option<&'a [u8]>, N
             return Ok(None);
         };
         left = after;
+        let (next, ascii) = string_front(left);
+        len = next;
+        is_text = is_text && ascii;
     }
 }
 
-// The text of some bytes, of which it is known whether all are ASCII.
-fn text_of(bytes: &[u8], ascii: bool) -> Option<&str>
-    requires { ascii ≡ true → IsAscii bytes.now }
-    ensures { IfSome result (λ t. (t.now ≡ bytes.now) × IsUtf8 bytes.now) }
+// The text of some bytes, which may be known to be UTF-8.
+fn text_of(bytes: &[u8], is_text: bool) -> Option<&str>
+    requires { is_text ≡ true → IsUtf8 bytes.now }
+    ensures some { IfSome result (λ t. (t.now ≡ bytes.now) × IsUtf8 bytes.now) }
+    ensures none { IfNone result (¬ IsUtf8 bytes.now) }
 {
-    if ascii {
+    if is_text {
         return Some(unsafe { str::from_utf8_unchecked(bytes) });
     }
     match str::from_utf8(bytes) {
@@ -64,12 +78,17 @@ fn text_of(bytes: &[u8], ascii: bool) -> Option<&str>
 }
 
 /// The text of a string without escapes whose opening quote is before the line, and what is behind
-/// it.
+/// it. So many bytes in front stand for themselves.
 #[inline(always)]
-pub fn plain_text<'a>(alloc: Global, line: &'a [u8]) -> Result<Option<(Str, &'a [u8])>, NoMemory>
+pub fn plain_text<'a>(
+    alloc: Global,
+    line: &'a [u8],
+    len: usize,
+    ascii: bool,
+) -> Result<Option<(Str, &'a [u8])>, NoMemory>
+    requires { IsStretch line.now len ascii }
     ensures { IfOk result (λ o. IfSome o (λ p. IsText line.now p.0 p.1.now)) }
 {
-    let (len, ascii) = string_front(line);
     let (raw, behind) = line.split_at(len);
     let Some((mark, rest)) = uncons(behind) else {
         return Ok(None);
@@ -87,19 +106,23 @@ pub fn plain_text<'a>(alloc: Global, line: &'a [u8]) -> Result<Option<(Str, &'a 
 }
 
 /// The text of a string whose opening quote is before the line, and what is behind it, or nothing
-/// where no string in UTF-8 is there. What it spells is gathered in the bytes.
+/// where no string in UTF-8 is there. So many bytes in front stand for themselves. What it spells
+/// is gathered in the bytes.
 pub fn escaped_text<'a>(
     alloc: Global,
     bytes: &mut Vec<u8>,
     line: &'a [u8],
+    len: usize,
+    ascii: bool,
 ) -> Result<Option<(Str, &'a [u8])>, NoMemory>
+    requires { IsStretch line.now len ascii }
     ensures { IfOk result (FindsText line.now) }
 {
-    let Some(rest) = string(bytes, line)? else {
+    let Some((rest, is_text)) = string(bytes, line, len, ascii)? else {
         return Ok(None);
     };
-    match str::from_utf8(bytes.as_slice()) {
-        Ok(text) => Ok(Some((Str::of(alloc, text)?, rest))),
-        Err(_) => Ok(None),
+    match text_of(bytes.as_slice(), is_text) {
+        Some(text) => Ok(Some((Str::of(alloc, text)?, rest))),
+        None => Ok(None),
     }
 }

@@ -14,6 +14,7 @@ ghost use Rattle.item_reader.specs.Turns.{IsTurn, IsAdded, Steps, Opens, PassesN
 use crate::build::{Build, Trouble};
 use crate::string::{escaped_text, plain_text};
 use crate::token::{Token, skip_spaces, uncons, value_from};
+use byte_lanes::string_front;
 use item_tree::{Item, NoMemory, Str};
 use std::alloc::Global;
 
@@ -349,10 +350,11 @@ impl State {
     ) -> Result<(Turn, &'a [u8]), NoMemory>
         ensures { GivesTurn self.old (string_token (string_at line.now)) result self.new }
     {
-        if let Some((text, behind)) = plain_text(alloc, line)? {
+        let (len, ascii) = string_front(line);
+        if let Some((text, behind)) = plain_text(alloc, line, len, ascii)? {
             return self.take_text(alloc, text, behind);
         }
-        match escaped_text(alloc, &mut self.content, line)? {
+        match escaped_text(alloc, &mut self.content, line, len, ascii)? {
             Some((text, behind)) => self.take_text(alloc, text, behind),
             None => Ok((Turn::NotJson, &[])),
         }

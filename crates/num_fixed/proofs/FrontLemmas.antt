@@ -365,6 +365,15 @@ lengths l m w f x a b c d = record {
   exponent = d ∙ ap exponent_len (slice_rest l (m + w + f));
 }
 
+-- the same where nothing goes on behind the digits
+pub lengths_of_whole : (l : List ℕ) (m w : ℕ) → m ≡ minus_len l → w ≡ digits_len (take (length l - m) (drop m l)) → fraction_len (take (length l - (m + w)) (drop (m + w) l)) ≡ 0 → exponent_len (take (length l - (m + w)) (drop (m + w) l)) ≡ 0 → AreLengths l m w 0 0
+lengths_of_whole l m w a b c d =
+    let same : m + w + 0 ≡ m + w = omega arith in
+    lengths l m w 0 0 a b (sym c) (sym (ap (λ k. exponent_len (take (length l - k) (drop k l))) same ∙ d))
+
+pub no_places : (l : List ℕ) (m w n : ℕ) → AreLengths l m w 0 0 → IsKeptIn64 (number_of n (places_at (drop (m + w) l))) n
+no_places l m w n h small = sym (ap (λ k. number_of n (frac_digits (fraction_of (take k (drop (m + w) l))))) (sym h.fraction))
+
 pub whole_ends : (l : List ℕ) (m w f x : ℕ) → AreLengths l m w f x → m + w ≡ whole_end l
 unfolding whole_end
 whole_ends l m w f x h = ap (λ k. m + k) h.whole ∙ ap (λ k. k + digits_len (drop k l)) h.minus

@@ -94,6 +94,17 @@ fn exponent_len(bytes: &[u8]) -> usize
     }
 }
 
+/// Whether what stands here may belong to a number whose digits are before it.
+#[tactic(auto, unfolding(crate::specs::Fronts::fraction_len, crate::specs::Fronts::exponent_len))]
+fn may_go_on(bytes: &[u8]) -> bool
+    ensures { result ≡ false → (fraction_len bytes.now ≡ 0) × (exponent_len bytes.now ≡ 0) }
+{
+    match bytes {
+        [first, ..] => *first == b'.' || *first == b'e' || *first == b'E',
+        [] => false,
+    }
+}
+
 /// How many units the last digit of a fraction of so many bytes counts.
 fn units_in_last(fraction: usize) -> u128
     requires some { 0 < fraction }
@@ -138,6 +149,15 @@ pub fn number_front(bytes: &[u8]) -> Option<NumberFront>
     let minus = minus_len(bytes);
     let (whole, n) = digits_front(0, &bytes[minus..]);
     let whole_end = minus + whole;
+    // Most numbers are short and whole.
+    if whole > 0 && whole <= 18 && !may_go_on(&bytes[whole_end..]) {
+        return Some(NumberFront {
+            value: Ok(small_number(minus == 1, n, 0)),
+            whole_end,
+            fraction_end: whole_end,
+            end: whole_end,
+        });
+    }
     let (fraction, n) = fraction_front(n, &bytes[whole_end..]);
     let fraction_end = whole_end + fraction;
     if fraction_end == minus {

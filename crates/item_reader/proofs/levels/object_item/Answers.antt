@@ -5,4 +5,4 @@ use Rattle.item_reader.proofs.levels.object_item.Goals as goal
 
 pub unreachable-requires : goal.unreachable-requires
 unreachable-requires c =
-    none_deep_pair _ c.args.pairs (omega arith) c.requires.1 (subst (DistinctRefused c.args.pairs) c.in-Err-TooDeep.field-0-is c.in-Err-TooDeep.ensures)
+    none_deep_pair _ c.args.pairs.now (omega arith) c.requires.1 (subst (DistinctRefused c.args.pairs.now) c.in-Err-TooDeep.field-0-is c.in-Err-TooDeep.ensures.made)

@@ -1,5 +1,4 @@
-use Rattle.std.proofs.lemmas.Str.{IsUtf8-from_ascii}
 use Rattle.item_reader.proofs.string.text_of.Goals as goal
 
 pub from_utf8_unchecked-requires : goal.from_utf8_unchecked-requires
-from_utf8_unchecked-requires c = IsUtf8-from_ascii c.args.bytes.now (c.requires c.if-ascii.true)
+from_utf8_unchecked-requires c = c.requires c.if-is_text.true

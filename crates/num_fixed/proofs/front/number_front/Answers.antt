@@ -1,8 +1,39 @@
 use Rattle.std.proofs.Common.{◌≡◌, ◌≤◌, ◌+◌, ◌-◌, length, take, drop, [], refl, sym, subst, arith}
 use Rattle.num_fixed.specs.Fronts.{exponent_len, numeral_front}
 use Rattle.num_fixed.specs.Numeral.{IsNumeral, IsSaid}
-use Rattle.num_fixed.proofs.FrontLemmas.{AreLengths, lengths, number_kept, places_kept, whole_ends, fraction_ends_at, ends_at, none_at, some_at, digits_read, small_read, front_alone}
+use Rattle.num_fixed.proofs.FrontLemmas.{AreLengths, lengths, lengths_of_whole, no_places, number_kept, places_kept, whole_ends, fraction_ends_at, ends_at, none_at, some_at, digits_read, small_read, front_alone}
 use Rattle.num_fixed.proofs.front.number_front.Goals as goal
+
+pub small_number-requires-clause-digits : goal.small_number-requires-clause-digits
+small_number-requires-clause-digits c =
+    let l = c.args.bytes.now in
+    let m = c.minus_len-minus.result in
+    let w = c.digits_front-whole.result.0 in
+    let n = c.digits_front-whole.result.1 in
+    let nothing = c.may_go_on.ensures c.if-not-may_go_on.true in
+    let h = lengths_of_whole l m w c.minus_len-minus.ensures.value c.digits_front-whole.ensures.length nothing.0 nothing.1 in
+    (digits_read l m w 0 0 n n h (omega arith) (number_kept l m n c.digits_front-whole.ensures.number) (no_places l m w n h)).1
+
+pub returns-then-not-may_go_on-clause-some : goal.returns-then-not-may_go_on-clause-some
+returns-then-not-may_go_on-clause-some c =
+    let l = c.args.bytes.now in
+    let m = c.minus_len-minus.result in
+    let w = c.digits_front-whole.result.0 in
+    let nothing = c.may_go_on.ensures c.if-not-may_go_on.true in
+    let h = lengths_of_whole l m w c.minus_len-minus.ensures.value c.digits_front-whole.ensures.length nothing.0 nothing.1 in
+    let fraction = fraction_ends_at l m w 0 0 h in
+    let end = ends_at l m w 0 0 h in
+    (some_at l m w 0 0 h (λ e. omega arith), record { whole = whole_ends l m w 0 0 h; fraction = omega arith; all = omega arith })
+
+pub returns-then-not-may_go_on-clause-value : goal.returns-then-not-may_go_on-clause-value
+returns-then-not-may_go_on-clause-value c =
+    let l = c.args.bytes.now in
+    let m = c.minus_len-minus.result in
+    let w = c.digits_front-whole.result.0 in
+    let n = c.digits_front-whole.result.1 in
+    let nothing = c.may_go_on.ensures c.if-not-may_go_on.true in
+    let h = lengths_of_whole l m w c.minus_len-minus.ensures.value c.digits_front-whole.ensures.length nothing.0 nothing.1 in
+    subst (IsSaid (numeral_front l)) (sym c.small_number.ensures) (small_read l m w 0 0 n n h (omega arith) (omega arith) refl (number_kept l m n c.digits_front-whole.ensures.number) (no_places l m w n h))
 
 pub returns-then-fraction_end-minus-clause-none : goal.returns-then-fraction_end-minus-clause-none
 returns-then-fraction_end-minus-clause-none c =
@@ -13,8 +44,8 @@ returns-then-fraction_end-minus-clause-none c =
     let h = lengths l m w f (exponent_len (take (length l - (m + w + f)) (drop (m + w + f) l))) c.minus_len-minus.ensures.value c.digits_front-whole.ensures.length c.fraction_front-fraction.ensures.length refl in
     none_at l m w f _ h c.if-fraction_end-minus.true
 
-pub small_number-requires-clause-digits : goal.small_number-requires-clause-digits
-small_number-requires-clause-digits c =
+pub small_number-requires-then-end-fraction_end-clause-digits : goal.small_number-requires-then-end-fraction_end-clause-digits
+small_number-requires-then-end-fraction_end-clause-digits c =
     let l = c.args.bytes.now in
     let m = c.minus_len-minus.result in
     let w = c.digits_front-whole.result.0 in
@@ -61,7 +92,7 @@ returns-then-end-fraction_end-clause-value c =
     let k = c.fraction_front-fraction.result.1 in
     let few : w + (f - 1) ≤ 18 = omega arith in
     let gone : x ≡ 0 = omega arith in
-    subst (IsSaid (numeral_front l)) (sym c.small_number.ensures) (small_read l m w f x n k h few c.if-fraction-lt8.true gone (number_kept l m n c.digits_front-whole.ensures.number) (places_kept l (m + w) n k c.fraction_front-fraction.ensures.number))
+    subst (IsSaid (numeral_front l)) (sym c.small_number-then-end-fraction_end.ensures) (small_read l m w f x n k h few c.if-fraction-lt8.true gone (number_kept l m n c.digits_front-whole.ensures.number) (places_kept l (m + w) n k c.fraction_front-fraction.ensures.number))
 
 pub returns-else-digits-le18-clause-some : goal.returns-else-digits-le18-clause-some
 returns-else-digits-le18-clause-some c =
