@@ -1,5 +1,5 @@
 use crate::made::{numbered, one, samples};
-use item_tree::{Item, Str, array_from, deep_equal, object_of};
+use item_tree::{Item, PairList, Str, array_from, deep_equal, object_from, object_of};
 use std::alloc::Global;
 use std::test::Fail;
 
@@ -50,16 +50,22 @@ fn keeps_items_of_each_number(rt: HostRuntime) -> Result<(), Fail> {
     Ok(())
 }
 
+// Up to four pairs stand in one block, and more in a list.
 #[test]
 fn gives_pairs_back(rt: HostRuntime) -> Result<(), Fail> {
     let alloc = rt.alloc();
-    let Item::Object(pairs) = object_of(alloc, numbered(alloc, 40, None)?)? else {
-        return Ok(());
-    };
-    let shared = pairs.copy()?;
-    assert_eq!(rt; pairs.as_slice().len(), 40);
-    assert_eq!(rt; shared.into_vec()?.len(), 40);
-    assert_eq!(rt; pairs.into_vec()?.len(), 40);
+    for count in [0u32, 1, 2, 3, 4, 5, 40] {
+        let mut list = PairList::of(alloc, numbered(alloc, count, None)?)?;
+        let Item::Object(pairs) = object_from(alloc, &mut list)? else {
+            assert!(rt; false, "{count} pairs are no object");
+            return Ok(());
+        };
+        assert!(rt; list.as_slice().is_empty(), "{count} pairs");
+        let shared = pairs.copy()?;
+        assert_eq!(rt; pairs.as_slice().len(), count as usize);
+        assert_eq!(rt; shared.into_vec()?.len(), count as usize);
+        assert_eq!(rt; pairs.into_vec()?.len(), count as usize);
+    }
     Ok(())
 }
 

@@ -10,7 +10,7 @@ use Rattle.std.proofs.lemmas.Slice.Eq.{bytes_eq-Decides}
 use Rattle.std.proofs.lemmas.Str.{encodes-chars, IsUtf8-string_bytes, IsUtf8-from_ascii}
 use Rattle.std.specs.Arc.{arc_value}
 use Rattle.item_tree.specs.declared.str_bytes.StrBytes.{StrBytes}
-use Rattle.item_tree.specs.declared.str_bytes.StrBytes.TheVariants.{Short, Shared}
+use Rattle.item_tree.specs.declared.str_bytes.StrBytes.TheVariants.{Short, Medium, Shared}
 use Rattle.item_tree.specs.inside.StrBytes.{IsShort, IsFront, bytes_of, IsHeld}
 use Rattle.item_tree.proofs.Members.{both}
 
@@ -97,6 +97,7 @@ same_characters a b p q =
 
 pub is_text : (h : StrBytes) → IsHeld h → IsUtf8 (bytes_of h)
 is_text (Short n bytes) s = s.text
+is_text (Medium n bytes) s = s.text
 is_text (Shared text) s = IsUtf8-string_bytes (arc_value text)
 
 -- a front of ASCII with zeros behind it is held as a short text

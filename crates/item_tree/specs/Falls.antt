@@ -5,13 +5,16 @@ use Rattle.std.proofs.Common.{arith}
 use denote.Param.Weighed.{most}
 use Rattle.item_tree.specs.declared.item.Item.{Item}
 use Rattle.item_tree.specs.declared.item.Item.TheVariants.{Null, Bool, Int, Dec, Text, Date, DateTime, Array, Object}
-use Rattle.item_tree.specs.declared.item.Items.TheDeep.{deep-Item, deep-Held}
+use Rattle.item_tree.specs.declared.item.Items.TheDeep.{deep-Item, deep-Held, deep-HeldPairs}
 use Rattle.item_tree.specs.declared.item.Held.{Held}
 use Rattle.item_tree.specs.declared.item.Held.TheVariants.{One, Two, Three, Four, Many}
+use Rattle.item_tree.specs.declared.item.HeldPairs.{HeldPairs}
+use Rattle.item_tree.specs.declared.item.HeldPairs.TheVariants as few
 use Rattle.item_tree.specs.declared.item.Items.TheShapes.{weighed-Shared-pairs-at-2}
 use Rattle.item_tree.specs.Datum.{depth, array_of_list, object_of_pairs}
 use Rattle.item_tree.specs.Item.{datum, datums, pair_datums}
 use Rattle.item_tree.specs.inside.Held.{items_in}
+use Rattle.item_tree.specs.inside.HeldPairs.{pairs_in}
 
 deep_le : (x : Item) → deep-Item x ≤ depth (datum x) + 1
 deep_le Null = omega arith
@@ -35,8 +38,16 @@ held_falls (Three d items) = omega (arith, items_fall (arc_value items))
 held_falls (Four d items) = omega (arith, items_fall (arc_value items))
 held_falls (Many d items) = omega (arith, items_fall (arc_value items).items)
 
-pub pairs_fall : (ps : List (List ℕ × Item))
+pairs_fall : (ps : List (List ℕ × Item))
     → most (weighed-Shared-pairs-at-2.weight Item deep-Item) ps ≤ depth
     (object_of_pairs (pair_datums ps))
 pairs_fall [] = omega arith
 pairs_fall (p ∷ ps) = omega (arith, pairs_fall ps, deep_le p.1)
+
+pub held_pairs_fall : (h : HeldPairs)
+    → deep-HeldPairs h ≤ depth (object_of_pairs (pair_datums (pairs_in h)))
+held_pairs_fall (few.One d pairs) = omega (arith, pairs_fall (arc_value pairs))
+held_pairs_fall (few.Two d pairs) = omega (arith, pairs_fall (arc_value pairs))
+held_pairs_fall (few.Three d pairs) = omega (arith, pairs_fall (arc_value pairs))
+held_pairs_fall (few.Four d pairs) = omega (arith, pairs_fall (arc_value pairs))
+held_pairs_fall (few.Many d shared) = omega (arith, pairs_fall (arc_value shared).pairs.items)

@@ -4,5 +4,6 @@ pub mod Written
 pub mod StrBytes
 pub mod DateOrder
 pub mod Held
+pub mod HeldPairs
 pub mod SameValues
 pub mod Words

@@ -1,3 +1,6 @@
+ghost use Rattle.std.specs.Prelude.{◌≡◌, IfOk};
+ghost use Rattle.std.specs.Arc.{arc_value};
+
 mod copy;
 mod find;
 mod make;
@@ -5,7 +8,7 @@ mod pair_list;
 
 use crate::item::find::{place_among, value_at};
 use crate::{Day, Moment, NoMemory, Str, Units, Whole};
-pub use make::{array_from, array_of, object_of, object_of_distinct};
+pub use make::{array_from, array_of, object_from, object_of, object_of_distinct};
 pub use pair_list::PairList;
 use std::alloc::Global;
 use std::collections::BTreeMap;
@@ -74,16 +77,28 @@ impl Model for Items {
     ghost size_decreases = { λ a h. omega (arith, held_falls a.held) };
 }
 
-/// The pairs of an object in order of insertion, with different keys. Copies share one list. No
+/// The pairs of an object in order of insertion, with different keys. Copies share one block. No
 /// object is more than 128 deep.
 #[cycle(item)]
 #[derive(Debug, Drop)]
 pub struct Pairs {
-    shared: Arc<Shared, Global>,
-    depth: u8,
+    held: HeldPairs,
+    // Where `into_vec` finds room for a list. It takes none itself.
+    alloc: Global,
 }
 
-// What the copies of an object share.
+// How an object holds its pairs, behind its depth: a few as an array holds a few items.
+#[cycle(item)]
+#[derive(Debug, Drop)]
+enum HeldPairs {
+    One(u8, Arc<[(Str, Item); 1], Global>),
+    Two(u8, Arc<[(Str, Item); 2], Global>),
+    Three(u8, Arc<[(Str, Item); 3], Global>),
+    Four(u8, Arc<[(Str, Item); 4], Global>),
+    Many(u8, Arc<Shared, Global>),
+}
+
+// What the copies of an object with more pairs, or none, share.
 #[cycle(item)]
 #[derive(Debug, Drop)]
 struct Shared {
@@ -93,9 +108,8 @@ struct Shared {
 }
 
 impl Model for Pairs {
-    ghost use Rattle.std.specs.Prelude.{List, ℕ, option_map};
+    ghost use Rattle.std.specs.Prelude.{List, ℕ};
     ghost use Rattle.std.specs.Coded.{coded_list, coded×, coded_ℕ};
-    ghost use Rattle.std.specs.Arc.{arc_value};
     ghost use Rattle.item_tree.specs.Datum.{Datum, depth as depth_of, object_of_pairs};
     ghost use Rattle.item_tree.specs.Lookup.{IsObjectKept};
     ghost use Rattle.item_tree.specs.DatumCode.{datum_code};
@@ -105,19 +119,19 @@ impl Model for Pairs {
     ghost coded = { coded_list (coded× (coded_list coded_ℕ) datum_code) };
 
     ghost use Rattle.item_tree.specs.Item.{pair_datums};
+    ghost use Rattle.item_tree.specs.inside.HeldPairs.{pairs_in, pairs_depth_in, places_in};
 
-    ghost view = { λ a. pair_datums (arc_value a.shared).pairs.items };
+    ghost view = { λ a. pair_datums (pairs_in a.held) };
 
     ghost invariant = { λ a.
-        IsObjectKept a.depth (option_map arc_value (arc_value a.shared).places)
-        (pair_datums (arc_value a.shared).pairs.items) };
+        IsObjectKept (pairs_depth_in a.held) (places_in a.held) (pair_datums (pairs_in a.held)) };
 
     ghost size = { λ ps. depth_of (object_of_pairs ps) };
 
     ghost use Rattle.std.proofs.Common.{arith};
-    ghost use Rattle.item_tree.specs.Falls.{pairs_fall};
+    ghost use Rattle.item_tree.specs.Falls.{held_pairs_fall};
 
-    ghost size_decreases = { λ a h. omega (arith, pairs_fall (arc_value a.shared).pairs.items) };
+    ghost size_decreases = { λ a h. omega (arith, held_pairs_fall a.held) };
 }
 
 impl Held {
@@ -149,6 +163,48 @@ impl Held {
     }
 }
 
+impl HeldPairs {
+    ghost use Rattle.std.specs.Prelude.{◌≡◌, option_map};
+    ghost use Rattle.item_tree.specs.inside.HeldPairs.{pairs_in, pairs_depth_in, places_in};
+
+    fn as_slice(&self) -> &[(Str, Item)]
+        ensures { result.now ≡ pairs_in self.now }
+    {
+        match self {
+            HeldPairs::One(_, pairs) => pairs.as_slice(),
+            HeldPairs::Two(_, pairs) => pairs.as_slice(),
+            HeldPairs::Three(_, pairs) => pairs.as_slice(),
+            HeldPairs::Four(_, pairs) => pairs.as_slice(),
+            HeldPairs::Many(_, shared) => shared.pairs.as_slice(),
+        }
+    }
+
+    fn depth(&self) -> u8
+        ensures { result ≡ pairs_depth_in self.now }
+    {
+        match self {
+            HeldPairs::One(depth, _) => *depth,
+            HeldPairs::Two(depth, _) => *depth,
+            HeldPairs::Three(depth, _) => *depth,
+            HeldPairs::Four(depth, _) => *depth,
+            HeldPairs::Many(depth, _) => *depth,
+        }
+    }
+
+    // The index of the keys, where there is one.
+    fn places(&self) -> Option<&BTreeMap<Str, usize>>
+        ensures { option_map (λ m. m.now) result ≡ places_in self.now }
+    {
+        match self {
+            HeldPairs::Many(_, shared) => match &shared.places {
+                None => None,
+                Some(places) => Some(places),
+            },
+            _ => None,
+        }
+    }
+}
+
 impl Items {
     ghost use Rattle.std.specs.Prelude.{◌≡◌};
     ghost use Rattle.item_tree.specs.Datum.{Sound, array_of_list};
@@ -174,7 +230,7 @@ impl Pairs {
         ensures value { pair_datums result.now ≡ self.now }
         ensures sound { Sound (object_of_pairs self.now) }
     {
-        self.shared.pairs.as_slice()
+        self.held.as_slice()
     }
 
     /// The value at this key. The time grows with the logarithm of the number of pairs, whatever
@@ -192,7 +248,7 @@ impl Pairs {
     fn place(&self, key: &Str) -> Option<usize>
         ensures { result ≡ place_of key.now self.now }
     {
-        match &self.shared.places {
+        match self.held.places() {
             None => place_among(self.as_slice(), key),
             Some(places) => places.get(key).copied(),
         }
@@ -202,14 +258,33 @@ impl Pairs {
     pub fn into_vec(self) -> Result<Vec<(Str, Item)>, NoMemory>
         ensures { IfOk result (λ v. pair_datums v.items ≡ self) }
     {
-        let Pairs { shared, depth: _ } = self;
-        match Arc::try_unwrap(shared) {
-            Ok(shared) => {
-                let Shared { pairs, places: _ } = shared;
-                Ok(pairs)
-            }
-            Err(shared) => Ok(shared.pairs.clone()?),
+        let Pairs { held, alloc } = self;
+        match held {
+            HeldPairs::One(_, pairs) => list_of(alloc, pairs),
+            HeldPairs::Two(_, pairs) => list_of(alloc, pairs),
+            HeldPairs::Three(_, pairs) => list_of(alloc, pairs),
+            HeldPairs::Four(_, pairs) => list_of(alloc, pairs),
+            HeldPairs::Many(_, shared) => match Arc::try_unwrap(shared) {
+                Ok(shared) => {
+                    let Shared { pairs, places: _ } = shared;
+                    Ok(pairs)
+                }
+                Err(shared) => Ok(shared.pairs.clone()?),
+            },
         }
+    }
+}
+
+// A few pairs as a list. They are copied only where their block is shared.
+fn list_of<const N: usize>(
+    alloc: Global,
+    pairs: Arc<[(Str, Item); N], Global>,
+) -> Result<Vec<(Str, Item)>, NoMemory>
+    ensures { IfOk result (λ v. v.items ≡ arc_value pairs.entry) }
+{
+    match Arc::try_unwrap(pairs) {
+        Ok(pairs) => Ok(Vec::from_array(alloc, pairs)?),
+        Err(pairs) => Ok(pairs.as_slice().to_vec(alloc)?),
     }
 }
 
@@ -249,7 +324,7 @@ impl Item {
                 0
             }
             Item::Array(items) => items.held.depth(),
-            Item::Object(pairs) => pairs.depth,
+            Item::Object(pairs) => pairs.held.depth(),
         }
     }
 }

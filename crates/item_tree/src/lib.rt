@@ -30,7 +30,9 @@ pub use date_text::DateText;
 pub use decimal::DecimalBuffer;
 pub use fault::{Fault, MakeFault, NoMemory, OpFault, Spot};
 pub use functions::FnId;
-pub use item::{Item, Items, PairList, Pairs, array_from, array_of, object_of, object_of_distinct};
+pub use item::{
+    Item, Items, PairList, Pairs, array_from, array_of, object_from, object_of, object_of_distinct,
+};
 pub use key::{Key, key_of};
 pub use number::{Units, Whole};
 pub use push::push_last;

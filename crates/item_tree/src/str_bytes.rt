@@ -12,10 +12,16 @@ use std::sync::Arc;
 /// So many bytes stand in a string itself. With one more it would be larger than two words.
 const SHORT: usize = 14;
 
-/// The bytes of a string: few stand in it, before zeros, and more are shared by its copies.
+/// So many bytes stand in one block with the count of the copies, of eight bytes. Together that is
+/// 56, a size of glibc's blocks: with up to 15 bytes fewer it would take the same.
+const MEDIUM: usize = 48;
+
+/// The bytes of a string: few stand in it, before zeros. More are shared by its copies: up to 48 in
+/// one block of memory with their count, the others as a `String`, which takes a second one.
 #[derive(Debug, Drop)]
 pub(crate) enum StrBytes {
     Short(u8, [u8; SHORT]),
+    Medium(u8, Arc<[u8; MEDIUM], Global>),
     Shared(Arc<String, Global>),
 }
 
@@ -29,6 +35,18 @@ fn short(text: &str) -> StrBytes
     let mut bytes = [0u8; SHORT];
     bytes[..text.len()].copy_from_slice(text.as_bytes());
     StrBytes::Short(text.len() as u8, bytes)
+}
+
+// A text of some more bytes. It stands apart, since most texts are short and are made in line.
+#[inline(never)]
+fn medium(alloc: Global, text: &str) -> Result<StrBytes, AllocError>
+    requires many { 14 < length text.now }
+    requires few { length text.now ≤ 48 }
+    ensures { IfOk result (λ h. (bytes_of h ≡ text.now) × IsHeld h) }
+{
+    let mut bytes = [0u8; MEDIUM];
+    bytes[..text.len()].copy_from_slice(text.as_bytes());
+    Ok(StrBytes::Medium(text.len() as u8, Arc::new(alloc, bytes)?))
 }
 
 // So many bytes of the front, and zeros behind them. All lanes are chosen at once, so it takes no
@@ -74,6 +92,8 @@ impl StrBytes {
     {
         if text.len() <= SHORT {
             Ok(short(text))
+        } else if text.len() <= MEDIUM {
+            medium(alloc, text)
         } else {
             let shared = Arc::new(alloc, String::from_str(alloc, text)?)?;
             Ok(StrBytes::Shared(shared))
@@ -85,6 +105,8 @@ impl StrBytes {
     {
         if text.len() <= SHORT {
             Ok(short(text.as_str()))
+        } else if text.len() <= MEDIUM {
+            medium(alloc, text.as_str())
         } else {
             Ok(StrBytes::Shared(Arc::new(alloc, text)?))
         }
@@ -96,6 +118,9 @@ impl StrBytes {
     {
         match self {
             StrBytes::Short(n, bytes) => unsafe { str::from_utf8_unchecked(&bytes[..*n as usize]) },
+            StrBytes::Medium(n, bytes) => unsafe {
+                str::from_utf8_unchecked(&bytes[..*n as usize])
+            },
             StrBytes::Shared(text) => text.as_str(),
         }
     }
@@ -106,6 +131,7 @@ impl StrBytes {
     {
         match self {
             StrBytes::Short(n, bytes) => Ok(StrBytes::Short(*n, *bytes)),
+            StrBytes::Medium(n, bytes) => Ok(StrBytes::Medium(*n, Arc::try_clone(bytes)?)),
             StrBytes::Shared(text) => Ok(StrBytes::Shared(Arc::try_clone(text)?)),
         }
     }
@@ -118,10 +144,17 @@ impl StrBytes {
         match self {
             StrBytes::Short(n, bytes) => match other {
                 StrBytes::Short(m, others) => *n == *m && have_same_words(bytes, others),
+                StrBytes::Medium(_, _) => false,
+                StrBytes::Shared(_) => false,
+            },
+            StrBytes::Medium(n, bytes) => match other {
+                StrBytes::Short(_, _) => false,
+                StrBytes::Medium(m, others) => bytes[..*n as usize] == others[..*m as usize],
                 StrBytes::Shared(_) => false,
             },
             StrBytes::Shared(text) => match other {
                 StrBytes::Short(_, _) => false,
+                StrBytes::Medium(_, _) => false,
                 StrBytes::Shared(other) => text.as_str() == other.as_str(),
             },
         }

@@ -54,7 +54,7 @@ impl Str {
         }
     }
 
-    /// The string of these characters, without a second copy of them.
+    /// The string of these characters. They are copied where they are at most 48 bytes.
     pub fn from_string(alloc: Global, text: String) -> Result<Str, NoMemory>
         ensures { IfOk result (λ s. s ≡ chars (string_bytes text)) }
     {

@@ -1,4 +1,4 @@
-use super::{Held, Item, Items, Pairs};
+use super::{Held, HeldPairs, Item, Items, Pairs};
 use crate::NoMemory;
 use std::alloc::AllocError;
 use std::sync::Arc;
@@ -58,6 +58,26 @@ impl Held {
     }
 }
 
+impl HeldPairs {
+    ghost use Rattle.std.specs.Prelude.{◌≡◌, IfOk};
+    ghost use Rattle.item_tree.specs.inside.HeldPairs.{pairs_in, pairs_depth_in, places_in};
+
+    // The same, with the same block.
+    fn share(&self) -> Result<HeldPairs, AllocError>
+        ensures pairs { IfOk result (λ h. pairs_in h ≡ pairs_in self.now) }
+        ensures depth { IfOk result (λ h. pairs_depth_in h ≡ pairs_depth_in self.now) }
+        ensures places { IfOk result (λ h. places_in h ≡ places_in self.now) }
+    {
+        match self {
+            HeldPairs::One(depth, pairs) => Ok(HeldPairs::One(*depth, Arc::try_clone(pairs)?)),
+            HeldPairs::Two(depth, pairs) => Ok(HeldPairs::Two(*depth, Arc::try_clone(pairs)?)),
+            HeldPairs::Three(depth, pairs) => Ok(HeldPairs::Three(*depth, Arc::try_clone(pairs)?)),
+            HeldPairs::Four(depth, pairs) => Ok(HeldPairs::Four(*depth, Arc::try_clone(pairs)?)),
+            HeldPairs::Many(depth, shared) => Ok(HeldPairs::Many(*depth, Arc::try_clone(shared)?)),
+        }
+    }
+}
+
 impl Clone for Items {
     ghost use Rattle.std.specs.Prelude.{◌≡◌};
 
@@ -75,10 +95,10 @@ impl Clone for Pairs {
     ghost is_clone = { λ a b. b ≡ a };
 
     fn clone(&self) -> Result<Pairs, AllocError> {
-        let shared = Arc::try_clone(&self.shared)?;
+        let held = self.held.share()?;
         Ok(Pairs {
-            shared,
-            depth: self.depth,
+            held,
+            alloc: self.alloc,
         })
     }
 }

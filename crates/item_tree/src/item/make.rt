@@ -2,12 +2,13 @@ ghost use Rattle.std.specs.Prelude.{◌≡◌, ◌<◌, ◌++◌, ◌∷◌, [],
 ghost use Rattle.std.specs.Arc.{arc_value};
 ghost use Rattle.item_tree.specs.Datum.{AllSound, MembersSound, values, members, array_of_list, object_of_pairs, depth as depth_of};
 ghost use Rattle.item_tree.specs.Item.{datums, pair_datums};
-ghost use Rattle.item_tree.specs.Lookup.{IsIndexed};
+ghost use Rattle.item_tree.specs.Lookup.{Indexes};
 ghost use Rattle.item_tree.specs.inside.Held.{items_in, depth_in};
+ghost use Rattle.item_tree.specs.inside.HeldPairs.{pairs_in, pairs_depth_in, places_in};
 ghost use Rattle.item_tree.specs.Made.{MakesArray, MakesObject, MakesDistinct};
 
 use super::pair_list::PairList;
-use super::{Held, Item, Items, Pairs, Shared};
+use super::{Held, HeldPairs, Item, Items, Pairs, Shared};
 use crate::{MakeFault, NoMemory, Str};
 use std::alloc::Global;
 use std::collections::BTreeMap;
@@ -69,28 +70,28 @@ fn held_from(alloc: Global, depth: u8, items: &mut Vec<Item>) -> Result<Held, No
     }
 }
 
-// All items, as a list of their own without spare room.
-fn take_all(items: &mut Vec<Item>) -> Result<Vec<Item>, NoMemory>
-    ensures taken { IfOk result (λ v. v.items ≡ items.old.items) }
-    ensures left { items.new.items ≡ [] }
+// All of a list, as a list of their own without spare room.
+fn take_all<T: Drop>(list: &mut Vec<T>) -> Result<Vec<T>, NoMemory>
+    ensures taken { IfOk result (λ v. v.items ≡ list.old.items) }
+    ensures left { list.new.items ≡ [] }
 {
-    match items.split_off(0) {
+    match list.split_off(0) {
         Ok(all) => Ok(all),
         Err(_) => {
-            items.clear();
+            list.clear();
             Err(NoMemory)
         }
     }
 }
 
-// The last item, which is there.
+// The last of a list, which is there.
 #[inline(always)]
-fn take_last(items: &mut Vec<Item>) -> Item
-    requires { 0 < length items.old.items }
-    ensures { items.old.items ≡ items.new.items ++ result ∷ [] }
+fn take_last<T>(list: &mut Vec<T>) -> T
+    requires { 0 < length list.old.items }
+    ensures { list.old.items ≡ list.new.items ++ result ∷ [] }
 {
-    match items.pop() {
-        Some(item) => item,
+    match list.pop() {
+        Some(last) => last,
         None => unreachable!(),
     }
 }
@@ -112,26 +113,67 @@ pub fn object_of(alloc: Global, pairs: Vec<(Str, Item)>) -> Result<Item, MakeFau
 pub fn object_of_distinct(alloc: Global, list: PairList) -> Result<Item, MakeFault>
     ensures { MakesDistinct list result }
 {
-    let PairList { pairs, places } = list;
-    object_with(alloc, pairs, places)
+    let mut list = list;
+    object_from(alloc, &mut list)
 }
 
-// The object of pairs whose keys differ, with their index.
-fn object_with(
-    alloc: Global,
-    pairs: Vec<(Str, Item)>,
-    places: Option<BTreeMap<Str, usize>>,
-) -> Result<Item, MakeFault>
-    requires { IsIndexed places (pair_datums pairs.items) }
-    ensures { MakesDistinct (pair_datums pairs.items) result }
+/// The object of the pairs of a list. None of them are left in the list, whatever the answer; its
+/// room is kept.
+///
+/// It is refused as too deep exactly where a value has depth 128.
+pub fn object_from(alloc: Global, list: &mut PairList) -> Result<Item, MakeFault>
+    ensures made { MakesDistinct list.old result }
+    ensures left { list.new ≡ [] }
 {
-    let depth = object_depth(pairs.as_slice());
+    let depth = object_depth(list.as_slice());
+    let places = list.places.take();
     if depth > 128 {
+        list.pairs.clear();
         return Err(MakeFault::TooDeep);
     }
-    let places = shared_index(alloc, places)?;
-    let shared = Arc::new(alloc, Shared { pairs, places })?;
-    Ok(Item::Object(Pairs { shared, depth }))
+    let held = held_pairs_from(alloc, depth, &mut list.pairs, places)?;
+    Ok(Item::Object(Pairs { held, alloc }))
+}
+
+// Takes the pairs of a list, which keeps its room. A few have no index.
+fn held_pairs_from(
+    alloc: Global,
+    depth: u8,
+    list: &mut Vec<(Str, Item)>,
+    places: Option<BTreeMap<Str, usize>>,
+) -> Result<HeldPairs, NoMemory>
+    requires { Indexes places (pair_datums list.old.items) }
+    ensures pairs { IfOk result (λ h. pairs_in h ≡ list.old.items) }
+    ensures depth { IfOk result (λ h. pairs_depth_in h ≡ depth) }
+    ensures places { IfOk result (λ h. Indexes (places_in h) (pair_datums list.old.items)) }
+    ensures left { list.new.items ≡ [] }
+{
+    match list.len() {
+        1 => Ok(HeldPairs::One(depth, Arc::new(alloc, [take_last(list)])?)),
+        2 => {
+            let second = take_last(list);
+            let first = take_last(list);
+            Ok(HeldPairs::Two(depth, Arc::new(alloc, [first, second])?))
+        }
+        3 => {
+            let third = take_last(list);
+            let second = take_last(list);
+            let first = take_last(list);
+            Ok(HeldPairs::Three(depth, Arc::new(alloc, [first, second, third])?))
+        }
+        4 => {
+            let fourth = take_last(list);
+            let third = take_last(list);
+            let second = take_last(list);
+            let first = take_last(list);
+            Ok(HeldPairs::Four(depth, Arc::new(alloc, [first, second, third, fourth])?))
+        }
+        _ => {
+            let pairs = take_all(list)?;
+            let places = shared_index(alloc, places)?;
+            Ok(HeldPairs::Many(depth, Arc::new(alloc, Shared { pairs, places })?))
+        }
+    }
 }
 
 // The same index, to be shared by the copies of an object.

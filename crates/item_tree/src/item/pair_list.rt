@@ -1,6 +1,6 @@
 //! Pairs from which an object is made.
 
-ghost use Rattle.std.specs.Prelude.{◌≡◌, ◌<◌, ◌++◌, ◌∷◌, [], None, IfOk, OnOk, OnErr, option_map, length};
+ghost use Rattle.std.specs.Prelude.{◌≡◌, ◌<◌, ◌++◌, ◌∷◌, [], None, OnOk, OnErr, option_map, length};
 ghost use Rattle.item_tree.specs.Datum.{KeysDiffer};
 ghost use Rattle.item_tree.specs.Item.{datum, pair_datums};
 ghost use Rattle.item_tree.specs.Lookup.{place_of, lookup, put, PutsAt};
@@ -86,18 +86,6 @@ impl PairList {
         ensures differ { KeysDiffer self.now }
     {
         self.pairs.as_slice()
-    }
-
-    /// All the pairs, as a list of their own without spare room. None are left, and their room is
-    /// kept. Where memory is short the pairs stay as they are.
-    pub fn take(&mut self) -> Result<PairList, NoMemory>
-        ensures ok { OnOk result (self.new ≡ []) }
-        ensures list { IfOk result (λ l. l ≡ self.old) }
-        ensures err { OnErr result (self.new ≡ self.old) }
-    {
-        let pairs = self.pairs.split_off(0)?;
-        let places = self.places.take();
-        Ok(PairList { pairs, places })
     }
 
     /// No pairs are left, and their room is kept.
