@@ -1,26 +1,25 @@
 -- The items of an input, line by line.
-use Rattle.std.proofs.Common.{◌≡◌, ◌<◌, ℕ, ◌+◌, List, [], ◌∷◌, ◌++◌, append_assoc, subst, Bool, true, false, not, cond, ◌==◌, nat_eq, Option, None, Some, Result, Ok, Err, length, drop, map, refl, sym, ap, ◌∙◌, arith}
+use Rattle.std.proofs.Common.{◌≡◌, ◌<◌, ◌≤◌, ℕ, ◌+◌, List, [], ◌∷◌, ◌++◌, append_assoc, subst, Bool, true, false, not, cond, ◌==◌, nat_eq, Option, None, Some, Result, Ok, Err, length, drop, map, refl, sym, ap, ◌∙◌, arith}
 use Rattle.std.specs.Prelude.{filter, IfSome}
 use Rattle.std.specs.List.{onto_first, starts_with, join_with_byte}
+use Rattle.std.proofs.lemmas.Grind.{common_steps}
 use Rattle.std.proofs.lemmas.Bool.Decides.{Decides-eqb}
 use Rattle.std.proofs.lemmas.List.Splits.{length-slice_split, join_with_byte-slice_split}
-use Rattle.std.proofs.lemmas.List.{append-nil, map-append}
+use Rattle.std.proofs.lemmas.List.{append-nil, length-append, map-append}
 use Rattle.std.proofs.lemmas.Slice.Eq.{starts_is}
 use Rattle.item_tree.specs.Datum.{Datum}
 use Rattle.item_tree.specs.declared.code.Code.{Code}
 use Rattle.item_reader.specs.Lines.{Line, mark, cut, placed, unmarked, without_mark}
-use Rattle.item_reader.specs.Reading.{read_before}
+use Rattle.item_reader.specs.Reading.{Read, read_before}
 use Rattle.item_reader.specs.inside.Items.{items_of, items_of_lines}
-use Rattle.json_text.specs.Line.{blank, item, fault, is_blank}
+use Rattle.json_text.specs.Line.{blank, item, is_blank}
 use Rattle.json_text.specs.inside.Build.{reading}
 use Rattle.item_tree.specs.declared.item.Item.{Item}
 use Rattle.item_tree.specs.Item.{datum, datums}
-use Rattle.rumble_run.specs.inside.Cuts.{lines_of}
-
--- the items of lines without their offsets
-abbrev pub items_of_cut : List (List ℕ) → Result (List Datum) Code
-items_of_cut [] = Ok []
-items_of_cut (l ∷ ls) = read_before (reading l) (items_of_cut ls)
+use Rattle.item_tree.specs.ItemText.{item_text}
+use Rattle.rumble_run.specs.Answer.{output_of}
+use Rattle.rumble_run.specs.inside.Cuts.{lines_read, left_read}
+use Rattle.rumble_run.specs.inside.Printing.{Prints}
 
 -- what the items so far make of what is still to come
 abbrev pub followed : List Datum → Result (List Datum) Code → Result (List Datum) Code
@@ -45,13 +44,13 @@ reading-blank : (l : List ℕ) → is_blank l ≡ true → reading l ≡ blank
 unfolding reading
 reading-blank l e = rw e refl
 
-without_blanks : (ls : List Line) → items_of_lines (filter (λ l. not (is_blank l.bytes)) ls) ≡ items_of_cut (map (λ l. l.bytes) ls)
+without_blanks : (ls : List Line) → items_of_lines (filter (λ l. not (is_blank l.bytes)) ls) ≡ lines_read (map (λ l. l.bytes) ls)
 without_blanks [] = refl
 without_blanks (l ∷ ls) = by (is_blank l.bytes) refl (without_blanks ls)
   where
-    by : (b : Bool) → is_blank l.bytes ≡ b → items_of_lines (filter (λ l. not (is_blank l.bytes)) ls) ≡ items_of_cut (map (λ l. l.bytes) ls)
-        → items_of_lines (cond (not b) (l ∷ filter (λ l. not (is_blank l.bytes)) ls) (filter (λ l. not (is_blank l.bytes)) ls)) ≡ read_before (reading l.bytes) (items_of_cut (map (λ l. l.bytes) ls))
-    by true e ih = ih ∙ ap (λ r. read_before r (items_of_cut (map (λ l. l.bytes) ls))) (sym (reading-blank l.bytes e))
+    by : (b : Bool) → is_blank l.bytes ≡ b → items_of_lines (filter (λ l. not (is_blank l.bytes)) ls) ≡ lines_read (map (λ l. l.bytes) ls)
+        → items_of_lines (cond (not b) (l ∷ filter (λ l. not (is_blank l.bytes)) ls) (filter (λ l. not (is_blank l.bytes)) ls)) ≡ read_before (reading l.bytes) (lines_read (map (λ l. l.bytes) ls))
+    by true e ih = ih ∙ ap (λ r. read_before r (lines_read (map (λ l. l.bytes) ls))) (sym (reading-blank l.bytes e))
     by false e ih = ap (read_before (reading l.bytes)) ih
 
 -- ---- the offsets don't matter, nor whether the mark is dropped before or after the cut
@@ -110,44 +109,68 @@ unmarked-cut input = by (starts_with nat_eq input mark) refl
     by false e = lines_at (cut input) refl e ∙ ap (λ b. cut (cond b (drop 3 input) input)) (sym e)
 
 -- the items of an input are those of what stands between its line feeds
-pub items_of-cut : (input : List ℕ) → items_of input ≡ items_of_cut (cut (without_mark input))
+pub items_of-cut : (input : List ℕ) → items_of input ≡ lines_read (cut (without_mark input))
 items_of-cut input =
     without_blanks (unmarked (placed 0 (cut input)))
-    ∙ ap items_of_cut (bytes-unmarked (placed 0 (cut input)) ∙ ap unmarked_first (bytes-placed 0 (cut input)) ∙ unmarked-cut input)
+    ∙ ap lines_read (bytes-unmarked (placed 0 (cut input)) ∙ ap unmarked_first (bytes-placed 0 (cut input)) ∙ unmarked-cut input)
 
 -- ---- a loop over the lines
 
--- the items so far, before those of what is left, are the items of the input
-pub record IsSoFar (input : List ℕ) (items : List Item) (left : Option (List ℕ)) : Type 0 where
-  pub whole : followed (datums items) (items_of_cut (lines_of left)) ≡ items_of input
+-- all lines are left at first
+pub all_left : (input bytes : List ℕ) → bytes ≡ without_mark input → left_read (Some bytes) ≡ items_of input
+all_left input bytes e = ap (λ b. lines_read (cut b)) e ∙ sym (items_of-cut input)
 
-pub at_first : (input bytes : List ℕ) (items : List Item) → items ≡ [] → bytes ≡ without_mark input → IsSoFar input items (Some bytes)
-at_first input bytes items e m = rw (e, m) (record { whole = sym (items_of-cut input) })
+-- ---- a loop over the items
 
-next_line : (input line bytes : List ℕ) (items : List Item) (behind : Option (List ℕ)) → IsSoFar input items (Some bytes) → cut bytes ≡ line ∷ lines_of behind
-    → followed (datums items) (read_before (reading line) (items_of_cut (lines_of behind))) ≡ items_of input
-next_line input line bytes items behind h e = ap (λ ls. followed (datums items) (items_of_cut ls)) (sym e) ∙ h.whole
+-- the items so far, before what is left, are the items of the input
+pub record IsSoFar (input : List ℕ) (items : List Datum) (left : Read) : Type 0 where
+  pub whole : followed items left ≡ items_of input
 
-pub past_blank : (input line bytes : List ℕ) (items : List Item) (behind : Option (List ℕ)) → IsSoFar input items (Some bytes) → cut bytes ≡ line ∷ lines_of behind
-    → reading line ≡ blank → IsSoFar input items behind
-past_blank input line bytes items behind h e r = record {
-  whole = ap (λ k. followed (datums items) (read_before k (items_of_cut (lines_of behind)))) (sym r) ∙ next_line input line bytes items behind h e;
+pub past_item : (input : List ℕ) (items : List Datum) (x : Datum) (before after : Read) → IsSoFar input items before → before ≡ read_before (item x) after → IsSoFar input (items ++ x ∷ []) after
+past_item input items x before after h e = record {
+  whole = followed-push items x after ∙ ap (followed items) (sym e) ∙ h.whole;
 }
 
-pub past_item : (input line bytes : List ℕ) (items : List Item) (x : Item) (behind : Option (List ℕ)) → IsSoFar input items (Some bytes) → cut bytes ≡ line ∷ lines_of behind
-    → reading line ≡ item (datum x) → IsSoFar input (items ++ x ∷ []) behind
-past_item input line bytes items x behind h e r =
-    let pushed : datums (items ++ x ∷ []) ≡ datums items ++ datum x ∷ [] = map-append datum items (x ∷ []) in record {
-      whole = ap (λ xs. followed xs (items_of_cut (lines_of behind))) pushed
-          ∙ followed-push (datums items) (datum x) (items_of_cut (lines_of behind))
-          ∙ ap (λ k. followed (datums items) (read_before k (items_of_cut (lines_of behind)))) (sym r) ∙ next_line input line bytes items behind h e;
-    }
+-- the same, of the items as the code has them
+pub past_read : (input : List ℕ) (items : List Item) (x : Item) (before after : Read) → IsSoFar input (datums items) before → before ≡ read_before (item (datum x)) after → IsSoFar input (datums (items ++ x ∷ [])) after
+past_read input items x before after h e = subst (λ xs. IsSoFar input xs after) (sym (map-append datum items (x ∷ []))) (past_item input (datums items) (datum x) before after h e)
 
-pub at_fault : (input line bytes : List ℕ) (items : List Item) (behind : Option (List ℕ)) (code : Option Code) → IsSoFar input items (Some bytes) → cut bytes ≡ line ∷ lines_of behind
-    → IfSome code (λ c. reading line ≡ fault c) → IfSome code (λ c. items_of input ≡ Err c)
-at_fault input line bytes items behind None h e r = tt
-at_fault input line bytes items behind (Some c) h e r =
-    sym (next_line input line bytes items behind h e) ∙ ap (λ k. followed (datums items) (read_before k (items_of_cut (lines_of behind)))) r ∙ followed-Err (datums items) c
+pub past_fault : (input : List ℕ) (items : List Datum) (before : Read) (code : Option Code) → IsSoFar input items before → IfSome code (λ c. before ≡ Err c) → IfSome code (λ c. items_of input ≡ Err c)
+past_fault input items before None h e = tt
+past_fault input items before (Some c) h e = sym h.whole ∙ ap (followed items) e ∙ followed-Err items c
 
-pub at_last : (input : List ℕ) (items : List Item) → IsSoFar input items None → items_of input ≡ Ok (datums items)
-at_last input items h = sym h.whole ∙ followed-Ok (datums items) [] ∙ ap (λ xs. Ok xs) (append-nil (datums items))
+pub at_last : (input : List ℕ) (items : List Datum) (before : Read) → IsSoFar input items before → before ≡ Ok [] → items_of input ≡ Ok items
+at_last input items before h e = sym h.whole ∙ ap (followed items) e ∙ followed-Ok items [] ∙ ap (λ xs. Ok xs) (append-nil items)
+
+-- ---- a loop that prints the items
+
+-- what is printed so far is the output of the items so far, and their number
+pub record IsPrinted (input : List ℕ) (count : ℕ) (out : List ℕ) (left : Read) : Type 0 where
+  pub items : List Datum
+  pub so_far : IsSoFar input items left
+  pub count_is : count ≡ length items
+  pub out_is : out ≡ output_of items
+  pub fits : count ≤ length out
+
+output-push : (xs : List Datum) (x : Datum) → output_of (xs ++ x ∷ []) ≡ output_of xs ++ output_of (x ∷ [])
+output-push [] x = refl
+output-push (y ∷ ys) x = ap (λ o. item_text y ++ 10 ∷ o) (output-push ys x) ∙ sym (append_assoc (item_text y) (10 ∷ output_of ys) (output_of (x ∷ [])))
+
+pub none_printed : (input : List ℕ) (count : ℕ) (out : List ℕ) (left : Read) → count ≡ 0 → out ≡ [] → left ≡ items_of input → IsPrinted input count out left
+none_printed input count out left c o e = rw (c, o) (record { items = []; so_far = record { whole = e }; count_is = refl; out_is = refl; fits = omega arith })
+
+pub one_printed : (input : List ℕ) (count : ℕ) (out : List ℕ) (x : Datum) (before after : Read) → IsPrinted input count out before → before ≡ read_before (item x) after
+    → IsPrinted input (count + 1) (out ++ output_of (x ∷ [])) after
+one_printed input count out x before after h e = record {
+  items = h.items ++ x ∷ [];
+  so_far = past_item input h.items x before after h.so_far e;
+  count_is = ap (λ n. n + 1) h.count_is ∙ sym (length-append h.items (x ∷ []));
+  out_is = ap (λ o. o ++ output_of (x ∷ [])) h.out_is ∙ sym (output-push h.items x);
+  fits = more;
+}
+  where
+    more : count + 1 ≤ length (out ++ output_of (x ∷ []))
+    more = grind (arith, common_steps, h.fits)
+
+pub all_printed : (input : List ℕ) (count : ℕ) (out : List ℕ) (left : Read) → IsPrinted input count out left → left ≡ Ok [] → Prints (items_of input) count out
+all_printed input count out left h e = rw (at_last input h.items left h.so_far e) (h.count_is, h.out_is)

@@ -6,3 +6,4 @@ pub mod Fronts
 pub mod Answered
 pub mod Opened
 pub mod Endings
+pub mod LoneInputs

@@ -73,13 +73,16 @@ output_of (x ∷ xs) = item_text x ++ 10 ∷ output_of xs
 abbrev pub stats_text : ℕ → ℕ → List ℕ
 stats_text items bytes = (codes "items " ++ decimal items) ++ (codes " bytes " ++ decimal bytes)
 
--- the items are printed, and counted where the statistics are asked for
-abbrev pub prints : Bool → List Datum → Answer
-prints stats items = record {
+-- these bytes are written, and the items in them counted where the statistics are asked for
+abbrev pub writes_items : Bool → ℕ → List ℕ → Answer
+writes_items stats items out = record {
   status = Done;
-  out = output_of items;
-  err = if stats then lined (stats_text (length items) (length (output_of items))) else [];
+  out = out;
+  err = if stats then lined (stats_text items (length out)) else [];
 }
+
+abbrev pub prints : Bool → List Datum → Answer
+prints stats items = writes_items stats (length items) (output_of items)
 
 -- what a query's value comes to
 abbrev pub of_outcome : Bool → List ℕ → Outcome → Answer

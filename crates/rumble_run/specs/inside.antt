@@ -4,3 +4,5 @@ pub mod Computed
 pub mod Reads
 pub mod Held
 pub mod Seen
+pub mod Printing
+pub mod LoneInput

@@ -19,6 +19,7 @@ use crate::command::{Action, Command, command_of};
 use crate::ending::Ending;
 use crate::front::{FrontFault, front};
 use crate::inputs::read_inputs;
+use crate::lone_input::{lone_input, of_lone_input};
 use crate::mark::without_mark;
 use crate::read::read_named;
 use crate::status::Stop;
@@ -83,6 +84,10 @@ fn of_run<I: Inputs>(
         (I.counts inputs.old) (I.counts inputs.new)) }
 {
     let names = input_names(alloc, query.module())?;
+    if let Some((name, place)) = lone_input(query.module(), &names) {
+        let ending = of_lone_input(alloc, stats, text, name, place, inputs)?;
+        return Ok(ending);
+    }
     let library = read_inputs(alloc, inputs, &names)?;
     let ending = of_library(alloc, stats, text, query, &library)?;
     Ok(ending)

@@ -17,6 +17,7 @@ mod front;
 mod inputs;
 mod items;
 pub mod laws;
+mod lone_input;
 mod mark;
 mod place;
 mod print;

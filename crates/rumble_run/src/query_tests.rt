@@ -413,6 +413,53 @@ const STORES: &str =
 ";
 
 // Sales by store.
+// One input is printed as it is read, and more than that, or parentheses, keep the items first.
+#[test]
+fn prints_one_input_as_others(rt: HostRuntime) -> Result<(), Fail> {
+    let alloc = rt.alloc();
+    let rows: [Row; 13] = [
+        ("json-lines(\"a\")", "1\n \n[2.50]", "1\n[2.5]\n", ""),
+        ("(json-lines(\"a\"))", "1\n \n[2.50]", "1\n[2.5]\n", ""),
+        ("json-lines(\"a\")", "", "", ""),
+        ("json-lines(\"a\")", "1\n[", "", "raised JNDY0021 at 1:1\n"),
+        (
+            "(json-lines(\"a\"))",
+            "1\n[",
+            "",
+            "raised JNDY0021 at 1:2\n",
+        ),
+        (" json-lines(\"none\")", "", "", "raised FODC0002 at 1:2\n"),
+        ("json-lines(\"a\", \"a\")", "1", "1\n1\n", ""),
+        ("json-lines(\"a\", \"b\")", "1", "1\n2\n", ""),
+        (
+            "json-lines(\"a\", \"none\")",
+            "[",
+            "",
+            "raised FODC0002 at 1:1\n",
+        ),
+        ("json-lines(\"a\"), 3", "1", "1\n3\n", ""),
+        (
+            "declare variable $v := 1; json-lines(\"a\")",
+            "5",
+            "5\n",
+            "",
+        ),
+        (
+            "declare variable $v := 1 div 0; json-lines(\"a\")",
+            "[",
+            "",
+            "raised FOAR0001 at 1:26\n",
+        ),
+        (
+            "declare function f() { json-lines(\"b\") }; json-lines(\"a\")",
+            "1",
+            "1\n",
+            "",
+        ),
+    ];
+    assert_rows(&rt, alloc, &rows)
+}
+
 #[test]
 fn totals_sales(rt: HostRuntime) -> Result<(), Fail> {
     assert_rows(&rt, rt.alloc(), &[(TOTALS, SALES, STORES, "")])

@@ -4,12 +4,12 @@ ghost use Rattle.std.specs.Prelude.{◌≡◌, [], ◌++◌, IfOk, codes, string
 ghost use Rattle.std.specs.Fmt.{decimal};
 ghost use Rattle.std.specs.Str.{encode_utf8_all};
 ghost use Rattle.item_tree.specs.Item.{datums};
-ghost use Rattle.rumble_run.specs.Answer.{says, writes, prints, refused, raised, fault_text, clause_text, spot_text, accepted, usage, stats_text};
+ghost use Rattle.rumble_run.specs.Answer.{says, writes, writes_items, prints, refused, raised, fault_text, clause_text, spot_text, accepted, usage, stats_text};
 ghost use Rattle.rumble_run.specs.inside.Seen.{answer_of};
 
 use crate::ending::Ending;
 use crate::place::line_column;
-use crate::print::print_items;
+use crate::print::{Printed, print_items};
 use crate::status::Status;
 use item_tree::{Fault, Item, NoMemory, Spot, Str};
 use std::alloc::{AllocError, Global};
@@ -139,15 +139,20 @@ fn stats_text(alloc: Global, items: usize, bytes: usize) -> Result<String, Alloc
     format!(in alloc; "{items}{bytes}")
 }
 
-/// These items are printed, and counted where the statistics are asked for.
-pub(crate) fn prints(alloc: Global, stats: bool, items: &[Item]) -> Result<Ending, NoMemory>
-    ensures { IfOk result (λ e. answer_of e ≡ prints stats (datums items.now)) }
+/// What is printed of some items is written, and they are counted where the statistics are asked for.
+pub(crate) fn writes_items(
+    alloc: Global,
+    stats: bool,
+    printed: Printed,
+) -> Result<Ending, AllocError>
+    ensures { IfOk result (λ e.
+        answer_of e ≡ writes_items stats printed.items printed.out.items) }
 {
-    let out = print_items(alloc, items)?;
+    let Printed { items, out } = printed;
     if !stats {
         return Ok(writes(alloc, out));
     }
-    let text = stats_text(alloc, items.len(), out.len())?;
+    let text = stats_text(alloc, items, out.len())?;
     let text = text.as_str();
     let err = format!(in alloc; "{text}\n")?;
     Ok(Ending {
@@ -155,4 +160,16 @@ pub(crate) fn prints(alloc: Global, stats: bool, items: &[Item]) -> Result<Endin
         out,
         err,
     })
+}
+
+/// These items are printed, and counted where the statistics are asked for.
+pub(crate) fn prints(alloc: Global, stats: bool, items: &[Item]) -> Result<Ending, NoMemory>
+    ensures { IfOk result (λ e. answer_of e ≡ prints stats (datums items.now)) }
+{
+    let out = print_items(alloc, items)?;
+    let printed = Printed {
+        items: items.len(),
+        out,
+    };
+    Ok(writes_items(alloc, stats, printed)?)
 }
