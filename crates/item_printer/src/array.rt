@@ -9,6 +9,7 @@ use crate::item::print_item;
 use item_tree::{Item, NoMemory};
 
 #[cycle(print)]
+#[inline(never)]
 #[tactic(auto, using(crate::proofs::Cuts::cuts))]
 pub(crate) fn print_array(items: &[Item], out: &mut Vec<u8>) -> Result<(), NoMemory>
     ensures ok { OnOk result

@@ -1,21 +1,46 @@
-ghost use Rattle.std.specs.Prelude.{◌≡◌, ◌++◌, OnOk, OnErr};
+ghost use Rattle.std.specs.Prelude.{◌≡◌, ◌++◌, ◌∷◌, [], IfSome, OnOk, OnErr};
 ghost use Rattle.std.specs.Fmt.{signed_decimal};
 ghost use Rattle.item_tree.specs.ItemText.{decimal_text};
 ghost use Rattle.item_printer.specs.Cut.{IsCut};
 
-use crate::append::append;
+use crate::append::{append, append_byte};
 use item_tree::{DecimalBuffer, NoMemory, Units, Whole};
 use itoa::Buffer;
+
+// The digit of a number that has no other. Where none is given the number takes a buffer, and has
+// the same text.
+#[tactic(auto, using(std::proofs::lemmas::Fmt::decimal_digit))]
+fn only_digit(n: i128) -> Option<u8>
+    ensures { IfSome result (λ digit. signed_decimal n ≡ digit ∷ []) }
+{
+    match u8::try_from(n) {
+        Ok(digit) if digit < 10 => Some(b'0' + digit),
+        _ => None,
+    }
+}
 
 pub(crate) fn print_integer(n: Whole, out: &mut Vec<u8>) -> Result<(), NoMemory>
     ensures ok { OnOk result (out.new.items ≡ out.old.items ++ signed_decimal n) }
     ensures err { OnErr result (IsCut (signed_decimal n) out.old.items out.new.items) }
 {
+    let n = n.get();
+    match only_digit(n) {
+        Some(digit) => append_byte(digit, out),
+        None => print_long_integer(n, out),
+    }
+}
+
+#[inline(never)]
+fn print_long_integer(n: i128, out: &mut Vec<u8>) -> Result<(), NoMemory>
+    ensures ok { OnOk result (out.new.items ≡ out.old.items ++ signed_decimal n) }
+    ensures err { OnErr result (IsCut (signed_decimal n) out.old.items out.new.items) }
+{
     let mut buffer = Buffer::new();
-    append(buffer.format(n.get()).as_bytes(), out)
+    append(buffer.format(n).as_bytes(), out)
 }
 
 // Without trailing zeros, and without a point where it is whole.
+#[inline(never)]
 pub(crate) fn print_decimal(m: Units, out: &mut Vec<u8>) -> Result<(), NoMemory>
     ensures ok { OnOk result (out.new.items ≡ out.old.items ++ decimal_text m) }
     ensures err { OnErr result (IsCut (decimal_text m) out.old.items out.new.items) }

@@ -11,6 +11,7 @@ use crate::string::print_string;
 use item_tree::{Item, NoMemory, Str};
 
 #[cycle(print)]
+#[inline(never)]
 #[tactic(auto, using(crate::proofs::Cuts::cuts))]
 pub(crate) fn print_object(pairs: &[(Str, Item)], out: &mut Vec<u8>) -> Result<(), NoMemory>
     ensures ok { OnOk result

@@ -1,12 +1,13 @@
 ghost use Rattle.std.specs.Prelude.{◌≡◌, ◌<◌, ◌++◌, true, false, OnOk, OnErr, position};
 ghost use Rattle.std.specs.Fmt.{digit_glyph};
+ghost use Rattle.item_tree.specs.Dates.{date_text, date_time_text};
 ghost use Rattle.item_tree.specs.ItemText.{string_text, control_text};
 ghost use Rattle.item_printer.specs.Cut.{IsCut};
 ghost use Rattle.item_printer.specs.StringBytes.{byte_text, bytes_text, quoted_text, is_escaped};
 
 use crate::append::{append, append_byte};
 use byte_lanes::first_string_stop;
-use item_tree::{DateText, NoMemory, Str};
+use item_tree::{DateText, Day, Moment, NoMemory, Str};
 
 pub(crate) fn print_string(text: &Str, out: &mut Vec<u8>) -> Result<(), NoMemory>
     ensures ok { OnOk result (out.new.items ≡ out.old.items ++ string_text text.now) }
@@ -16,11 +17,30 @@ pub(crate) fn print_string(text: &Str, out: &mut Vec<u8>) -> Result<(), NoMemory
 }
 
 // The text of a date or date-time, as a string.
-pub(crate) fn print_date(text: &DateText, out: &mut Vec<u8>) -> Result<(), NoMemory>
+fn print_date(text: &DateText, out: &mut Vec<u8>) -> Result<(), NoMemory>
     ensures ok { OnOk result (out.new.items ≡ out.old.items ++ string_text text.now) }
     ensures err { OnErr result (IsCut (string_text text.now) out.old.items out.new.items) }
 {
     print_quoted(text.as_str().as_bytes(), out)
+}
+
+#[inline(never)]
+pub(crate) fn print_day(day: &Day, out: &mut Vec<u8>) -> Result<(), NoMemory>
+    ensures ok { OnOk result (out.new.items ≡ out.old.items ++ string_text (date_text day.now)) }
+    ensures err { OnErr result
+        (IsCut (string_text (date_text day.now)) out.old.items out.new.items) }
+{
+    print_date(&day.text(), out)
+}
+
+#[inline(never)]
+pub(crate) fn print_moment(moment: &Moment, out: &mut Vec<u8>) -> Result<(), NoMemory>
+    ensures ok { OnOk result
+        (out.new.items ≡ out.old.items ++ string_text (date_time_text moment.now)) }
+    ensures err { OnErr result
+        (IsCut (string_text (date_time_text moment.now)) out.old.items out.new.items) }
+{
+    print_date(&moment.text(), out)
 }
 
 #[tactic(auto, using(crate::proofs::Cuts::cuts))]
