@@ -51,7 +51,8 @@ fn name_read(kind: &BoundKind) -> Option<&Str>
 
 /// The input, and the place of the call that reads it, where a query that names these inputs is
 /// nothing but a call of `json-lines` with one name. Where it names more, as in a function that is
-/// never called, all of them must be read.
+/// never called, all of them must be read. No contract asks that an input is found: where none is,
+/// the items are kept, and the answer is the same.
 pub(crate) fn lone_input<'a>(query: &BoundModule, names: &'a [Str]) -> Option<(&'a Str, u32)>
     ensures { IfSome result (λ r. (names.now ≡ r.0.now ∷ [])
         × IsLoneInput r.0.now r.1 (bound_trees query.now)) }

@@ -139,7 +139,7 @@ fn stats_text(alloc: Global, items: usize, bytes: usize) -> Result<String, Alloc
     format!(in alloc; "{items}{bytes}")
 }
 
-/// What is printed of some items is written, and they are counted where the statistics are asked for.
+/// What is printed of some items is written; they are counted where the statistics are asked for.
 pub(crate) fn writes_items(
     alloc: Global,
     stats: bool,
