@@ -1,6 +1,6 @@
 //! The arrays and objects that are open.
 
-ghost use Rattle.std.specs.Prelude.{◌≡◌, ◌<◌, ◌≤◌, ◌+◌, ◌∷◌, [], ℕ, true, IfOk, OnOk, length, take};
+ghost use Rattle.std.specs.Prelude.{◌≡◌, ◌<◌, ◌≤◌, ◌+◌, ◌∷◌, [], ℕ, true, false, IfOk, OnOk, length, take};
 ghost use Rattle.item_tree.specs.Datum.{array_of_list, object_of_pairs};
 ghost use Rattle.item_tree.specs.Item.{datum, datums};
 ghost use Rattle.item_reader.specs.Levels.{value_of, frame_of, empty_frame, frames_of, add_inside, key_inside, with_first, HasRoom, Opens, OnLast, Closes, ClosesTo};
@@ -99,6 +99,15 @@ impl Level {
         if self.is_array {
             return push_last(&mut self.items, item);
         }
+        self.add_pair(alloc, item)
+    }
+
+    // The value of the key that was set last.
+    #[inline(always)]
+    fn add_pair(&mut self, alloc: Global, item: Item) -> Result<(), NoMemory>
+        requires { self.old.is_array ≡ false }
+        ensures { OnOk result (frame_of self.new ≡ add_inside (datum item) (frame_of self.old)) }
+    {
         match self.key.take() {
             Some(key) => self.pairs.put(alloc, key, item),
             None => Ok(()),

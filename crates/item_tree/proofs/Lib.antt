@@ -22,3 +22,4 @@ pub mod DateTexts
 mod DateRows
 mod KeyOrder
 mod SameValues
+mod Letting

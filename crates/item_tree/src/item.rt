@@ -7,6 +7,7 @@ mod make;
 mod pair_list;
 
 use crate::item::find::{place_among, value_at};
+use crate::shared::let_go;
 use crate::{Day, Moment, NoMemory, Str, Units, Whole};
 pub use make::{array_from, array_of, object_from, object_of, object_of_distinct};
 pub use pair_list::PairList;
@@ -41,7 +42,7 @@ pub struct Items {
 // How an array holds its items, behind its depth. A few stand beside the count of the copies, in
 // one block of memory in place of two: most arrays are short.
 #[cycle(item)]
-#[derive(Debug, Drop)]
+#[derive(Debug)]
 enum Held {
     One(u8, Arc<[Item; 1], Global>),
     Two(u8, Arc<[Item; 2], Global>),
@@ -89,7 +90,7 @@ pub struct Pairs {
 
 // How an object holds its pairs, behind its depth: a few as an array holds a few items.
 #[cycle(item)]
-#[derive(Debug, Drop)]
+#[derive(Debug)]
 enum HeldPairs {
     One(u8, Arc<[(Str, Item); 1], Global>),
     Two(u8, Arc<[(Str, Item); 2], Global>),
@@ -134,6 +135,32 @@ impl Model for Pairs {
     ghost size_decreases = { λ a h. omega (arith, held_pairs_fall a.held) };
 }
 
+impl Drop for Held {
+    #[cycle(let_go)]
+    fn drop(self) {
+        match self {
+            Held::One(_, items) => let_go(items),
+            Held::Two(_, items) => let_go(items),
+            Held::Three(_, items) => let_go(items),
+            Held::Four(_, items) => let_go(items),
+            Held::Many(_, items) => let_go(items),
+        }
+    }
+}
+
+impl Drop for HeldPairs {
+    #[cycle(let_go)]
+    fn drop(self) {
+        match self {
+            HeldPairs::One(_, pairs) => let_go(pairs),
+            HeldPairs::Two(_, pairs) => let_go(pairs),
+            HeldPairs::Three(_, pairs) => let_go(pairs),
+            HeldPairs::Four(_, pairs) => let_go(pairs),
+            HeldPairs::Many(_, shared) => let_go(shared),
+        }
+    }
+}
+
 impl Held {
     ghost use Rattle.std.specs.Prelude.{◌≡◌};
     ghost use Rattle.item_tree.specs.inside.Held.{items_in, depth_in};
@@ -164,7 +191,8 @@ impl Held {
 }
 
 impl HeldPairs {
-    ghost use Rattle.std.specs.Prelude.{◌≡◌, option_map};
+    ghost use Rattle.std.specs.Prelude.{◌≡◌, IfOk, option_map};
+    ghost use Rattle.item_tree.specs.Item.{pair_datums};
     ghost use Rattle.item_tree.specs.inside.HeldPairs.{pairs_in, pairs_depth_in, places_in};
 
     fn as_slice(&self) -> &[(Str, Item)]
@@ -201,6 +229,25 @@ impl HeldPairs {
                 Some(places) => Some(places),
             },
             _ => None,
+        }
+    }
+
+    // The pairs as a list. They are copied only where their block is shared.
+    fn into_vec(self, alloc: Global) -> Result<Vec<(Str, Item)>, NoMemory>
+        ensures { IfOk result (λ v. pair_datums v.items ≡ pair_datums (pairs_in self)) }
+    {
+        match self {
+            HeldPairs::One(_, pairs) => list_of(alloc, pairs),
+            HeldPairs::Two(_, pairs) => list_of(alloc, pairs),
+            HeldPairs::Three(_, pairs) => list_of(alloc, pairs),
+            HeldPairs::Four(_, pairs) => list_of(alloc, pairs),
+            HeldPairs::Many(_, shared) => match Arc::try_unwrap(shared) {
+                Ok(shared) => {
+                    let Shared { pairs, places: _ } = shared;
+                    Ok(pairs)
+                }
+                Err(shared) => Ok(shared.pairs.clone()?),
+            },
         }
     }
 }
@@ -259,19 +306,7 @@ impl Pairs {
         ensures { IfOk result (λ v. pair_datums v.items ≡ self) }
     {
         let Pairs { held, alloc } = self;
-        match held {
-            HeldPairs::One(_, pairs) => list_of(alloc, pairs),
-            HeldPairs::Two(_, pairs) => list_of(alloc, pairs),
-            HeldPairs::Three(_, pairs) => list_of(alloc, pairs),
-            HeldPairs::Four(_, pairs) => list_of(alloc, pairs),
-            HeldPairs::Many(_, shared) => match Arc::try_unwrap(shared) {
-                Ok(shared) => {
-                    let Shared { pairs, places: _ } = shared;
-                    Ok(pairs)
-                }
-                Err(shared) => Ok(shared.pairs.clone()?),
-            },
-        }
+        held.into_vec(alloc)
     }
 }
 

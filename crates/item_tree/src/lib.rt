@@ -16,6 +16,7 @@ pub mod laws;
 mod number;
 mod push;
 mod same;
+mod shared;
 mod str_bytes;
 mod text;
 mod truth;

@@ -4,6 +4,7 @@ ghost use Rattle.std.specs.Str.{bytes_eq, IsAscii};
 ghost use Rattle.std.specs.String.{string_bytes};
 ghost use Rattle.item_tree.specs.inside.StrBytes.{bytes_of, IsHeld, IsFront};
 
+use crate::shared::let_go;
 use std::alloc::{AllocError, Global};
 use std::simd::prelude::*;
 use std::str;
@@ -18,11 +19,21 @@ const MEDIUM: usize = 48;
 
 /// The bytes of a string: few stand in it, before zeros. More are shared by its copies: up to 48 in
 /// one block of memory with their count, the others as a `String`, which takes a second one.
-#[derive(Debug, Drop)]
+#[derive(Debug)]
 pub(crate) enum StrBytes {
     Short(u8, [u8; SHORT]),
     Medium(u8, Arc<[u8; MEDIUM], Global>),
     Shared(Arc<String, Global>),
+}
+
+impl Drop for StrBytes {
+    fn drop(self) {
+        match self {
+            StrBytes::Short(_, _) => {}
+            StrBytes::Medium(_, bytes) => let_go(bytes),
+            StrBytes::Shared(text) => let_go(text),
+        }
+    }
 }
 
 // A text of a few bytes.

@@ -139,7 +139,8 @@ fn small_number(negative: bool, n: u64, fraction: usize) -> Number
 /// The longest number at the front of some bytes: a minus or none, digits, a point and digits or
 /// none, and an exponent or none, with a digit before the exponent. None where no number stands
 /// there. Each byte is read once, except those of a number with an exponent, more than six places
-/// or more than 18 digits.
+/// or more than 18 digits. It is inlined, since its result would go through memory else.
+#[inline(always)]
 pub fn number_front(bytes: &[u8]) -> Option<NumberFront>
     ensures none { IfNone result (has_number bytes.now ≡ false) }
     ensures some { IfSome result (λ f. (has_number bytes.now ≡ true) × AreEnds bytes.now f) }

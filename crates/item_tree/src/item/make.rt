@@ -9,6 +9,7 @@ ghost use Rattle.item_tree.specs.Made.{MakesArray, MakesObject, MakesDistinct};
 
 use super::pair_list::PairList;
 use super::{Held, HeldPairs, Item, Items, Pairs, Shared};
+use crate::shared::in_block;
 use crate::{MakeFault, NoMemory, Str};
 use std::alloc::Global;
 use std::collections::BTreeMap;
@@ -28,6 +29,7 @@ pub fn array_of(alloc: Global, items: Vec<Item>) -> Result<Item, MakeFault>
 /// kept.
 ///
 /// It is refused as too deep exactly where an item has depth 128.
+#[inline(always)]
 pub fn array_from(alloc: Global, items: &mut Vec<Item>) -> Result<Item, MakeFault>
     ensures made { MakesArray (datums items.old.items) result }
     ensures left { items.new.items ≡ [] }
@@ -47,27 +49,60 @@ fn held_from(alloc: Global, depth: u8, items: &mut Vec<Item>) -> Result<Held, No
     ensures left { items.new.items ≡ [] }
 {
     match items.len() {
-        1 => Ok(Held::One(depth, Arc::new(alloc, [take_last(items)])?)),
-        2 => {
-            let second = take_last(items);
-            let first = take_last(items);
-            Ok(Held::Two(depth, Arc::new(alloc, [first, second])?))
-        }
-        3 => {
-            let third = take_last(items);
-            let second = take_last(items);
-            let first = take_last(items);
-            Ok(Held::Three(depth, Arc::new(alloc, [first, second, third])?))
-        }
-        4 => {
-            let fourth = take_last(items);
-            let third = take_last(items);
-            let second = take_last(items);
-            let first = take_last(items);
-            Ok(Held::Four(depth, Arc::new(alloc, [first, second, third, fourth])?))
-        }
-        _ => Ok(Held::Many(depth, Arc::new(alloc, take_all(items)?)?)),
+        1 => Ok(Held::One(depth, one(alloc, items)?)),
+        2 => Ok(Held::Two(depth, two(alloc, items)?)),
+        3 => Ok(Held::Three(depth, three(alloc, items)?)),
+        4 => Ok(Held::Four(depth, four(alloc, items)?)),
+        _ => Ok(Held::Many(depth, in_block(alloc, take_all(items)?)?)),
     }
+}
+
+// A few of anything, in a block of their own. Each number has a function, which is inlined: what a
+// function has on the stack is set to zero where it begins, and so only for the one that is called.
+#[inline(always)]
+fn one<T: Drop>(alloc: Global, list: &mut Vec<T>) -> Result<Arc<[T; 1], Global>, NoMemory>
+    requires { length list.old.items ≡ 1 }
+    ensures taken { IfOk result (λ b. arc_value b ≡ list.old.items) }
+    ensures left { list.new.items ≡ [] }
+{
+    let only = take_last(list);
+    in_block(alloc, [only])
+}
+
+#[inline(always)]
+fn two<T: Drop>(alloc: Global, list: &mut Vec<T>) -> Result<Arc<[T; 2], Global>, NoMemory>
+    requires { length list.old.items ≡ 2 }
+    ensures taken { IfOk result (λ b. arc_value b ≡ list.old.items) }
+    ensures left { list.new.items ≡ [] }
+{
+    let second = take_last(list);
+    let first = take_last(list);
+    in_block(alloc, [first, second])
+}
+
+#[inline(always)]
+fn three<T: Drop>(alloc: Global, list: &mut Vec<T>) -> Result<Arc<[T; 3], Global>, NoMemory>
+    requires { length list.old.items ≡ 3 }
+    ensures taken { IfOk result (λ b. arc_value b ≡ list.old.items) }
+    ensures left { list.new.items ≡ [] }
+{
+    let third = take_last(list);
+    let second = take_last(list);
+    let first = take_last(list);
+    in_block(alloc, [first, second, third])
+}
+
+#[inline(always)]
+fn four<T: Drop>(alloc: Global, list: &mut Vec<T>) -> Result<Arc<[T; 4], Global>, NoMemory>
+    requires { length list.old.items ≡ 4 }
+    ensures taken { IfOk result (λ b. arc_value b ≡ list.old.items) }
+    ensures left { list.new.items ≡ [] }
+{
+    let fourth = take_last(list);
+    let third = take_last(list);
+    let second = take_last(list);
+    let first = take_last(list);
+    in_block(alloc, [first, second, third, fourth])
 }
 
 // All of a list, as a list of their own without spare room.
@@ -121,6 +156,7 @@ pub fn object_of_distinct(alloc: Global, list: PairList) -> Result<Item, MakeFau
 /// room is kept.
 ///
 /// It is refused as too deep exactly where a value has depth 128.
+#[inline(always)]
 pub fn object_from(alloc: Global, list: &mut PairList) -> Result<Item, MakeFault>
     ensures made { MakesDistinct list.old result }
     ensures left { list.new ≡ [] }
@@ -149,29 +185,14 @@ fn held_pairs_from(
     ensures left { list.new.items ≡ [] }
 {
     match list.len() {
-        1 => Ok(HeldPairs::One(depth, Arc::new(alloc, [take_last(list)])?)),
-        2 => {
-            let second = take_last(list);
-            let first = take_last(list);
-            Ok(HeldPairs::Two(depth, Arc::new(alloc, [first, second])?))
-        }
-        3 => {
-            let third = take_last(list);
-            let second = take_last(list);
-            let first = take_last(list);
-            Ok(HeldPairs::Three(depth, Arc::new(alloc, [first, second, third])?))
-        }
-        4 => {
-            let fourth = take_last(list);
-            let third = take_last(list);
-            let second = take_last(list);
-            let first = take_last(list);
-            Ok(HeldPairs::Four(depth, Arc::new(alloc, [first, second, third, fourth])?))
-        }
+        1 => Ok(HeldPairs::One(depth, one(alloc, list)?)),
+        2 => Ok(HeldPairs::Two(depth, two(alloc, list)?)),
+        3 => Ok(HeldPairs::Three(depth, three(alloc, list)?)),
+        4 => Ok(HeldPairs::Four(depth, four(alloc, list)?)),
         _ => {
             let pairs = take_all(list)?;
             let places = shared_index(alloc, places)?;
-            Ok(HeldPairs::Many(depth, Arc::new(alloc, Shared { pairs, places })?))
+            Ok(HeldPairs::Many(depth, in_block(alloc, Shared { pairs, places })?))
         }
     }
 }
@@ -185,7 +206,7 @@ fn shared_index(
 {
     match places {
         None => Ok(None),
-        Some(places) => Ok(Some(Arc::new(alloc, places)?)),
+        Some(places) => Ok(Some(in_block(alloc, places)?)),
     }
 }
 
