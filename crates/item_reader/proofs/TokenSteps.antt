@@ -1,6 +1,6 @@
 -- Steps to the next token.
-use Rattle.std.specs.Prelude.{◌≡◌, ◌==◌, ◌||◌, ℕ, Bool, true, false, List, [], ◌∷◌, Some, None, refl}
-use Rattle.std.proofs.Common.{sym, ◌∙◌, ap}
+use Rattle.std.specs.Prelude.{◌≡◌, ◌≤◌, ◌==◌, ◌||◌, ℕ, Bool, true, false, List, [], ◌∷◌, Some, None, refl}
+use Rattle.std.proofs.Common.{sym, ◌∙◌, ap, arith}
 use Rattle.json_text.specs.Json.{is_space}
 use Rattle.std.proofs.lemmas.Bool.{ne_eqb}
 use Rattle.json_text.specs.inside.Scan.{string_at, numeral_at}
@@ -85,3 +85,8 @@ unfolding token_from
 from_number b l h p q r s =
     let n = none_of (b == 91) (b == 93) (b == 123) (b == 125) (b == 44) (b == 58) h in
     rw (n.0, n.1, n.2, n.3, n.4, n.5, ne_eqb b 34 p, ne_eqb b 110 q, ne_eqb b 116 r, ne_eqb b 102 s) refl
+
+pub from_digit : (b : ℕ) (l : List ℕ) → 48 ≤ b → b ≤ 57 → token_from b l ≡ numeral_token (numeral_at (b ∷ l))
+from_digit b l h k =
+    let mark = no_mark b (λ e. absurd (omega arith)) (λ e. absurd (omega arith)) (λ e. absurd (omega arith)) (λ e. absurd (omega arith)) (λ e. absurd (omega arith)) (λ e. absurd (omega arith)) in
+    from_number b l mark (λ e. absurd (omega arith)) (λ e. absurd (omega arith)) (λ e. absurd (omega arith)) (λ e. absurd (omega arith))

@@ -72,6 +72,7 @@ impl Build {
         }
     }
 
+    #[inline(always)]
     pub fn open(&mut self, alloc: Global, is_array: bool) -> Result<(), NoMemory>
         ensures { OnOk result (Does (push_frame_of (empty_frame is_array)) self.old self.new) }
     {

@@ -83,13 +83,30 @@ impl Level {
     fn open(&mut self, is_array: bool)
         ensures { frame_of self.new ≡ empty_frame is_array }
     {
-        self.is_array = is_array;
         if is_array {
-            self.items.clear();
+            self.open_array();
         } else {
-            self.pairs.clear();
-            self.key = None;
+            self.open_object();
         }
+    }
+
+    #[inline(always)]
+    fn open_array(&mut self)
+        ensures { frame_of self.new ≡ empty_frame true }
+    {
+        self.is_array = true;
+        // Only an array that was left open in an earlier line has items here.
+        if !self.items.is_empty() {
+            self.items.clear();
+        }
+    }
+
+    fn open_object(&mut self)
+        ensures { frame_of self.new ≡ empty_frame false }
+    {
+        self.is_array = false;
+        self.pairs.clear();
+        self.key = None;
     }
 
     #[inline(always)]
@@ -136,6 +153,17 @@ impl Level {
     }
 }
 
+// Out of line, since a reader has most rooms from the lines before.
+#[inline(never)]
+fn more_room(alloc: Global, levels: &mut Vec<Level>) -> Result<(), NoMemory>
+    ensures kept { length levels.old.items ≤ length levels.new.items }
+    ensures ok { OnOk result
+        (HasRoom (length levels.old.items) levels.old.items levels.new.items) }
+{
+    levels.push(Level::new(alloc))?;
+    Ok(())
+}
+
 // There is room for one more container inside so many.
 #[inline(always)]
 fn have_room(alloc: Global, levels: &mut Vec<Level>, depth: usize) -> Result<(), NoMemory>
@@ -144,7 +172,7 @@ fn have_room(alloc: Global, levels: &mut Vec<Level>, depth: usize) -> Result<(),
     ensures ok { OnOk result (HasRoom depth levels.old.items levels.new.items) }
 {
     if depth == levels.len() {
-        levels.push(Level::new(alloc))?;
+        more_room(alloc, levels)?;
     }
     Ok(())
 }
@@ -231,6 +259,7 @@ impl Levels {
     }
 
     /// An array or an object opens in the innermost one.
+    #[inline(always)]
     pub fn open(&mut self, alloc: Global, is_array: bool) -> Result<(), NoMemory>
         ensures { OnOk result (self.new ≡ empty_frame is_array ∷ self.old) }
     {

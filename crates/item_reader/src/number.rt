@@ -1,9 +1,10 @@
 //! Numbers, taken from the front of a text.
 
-ghost use Rattle.std.specs.Prelude.{◌≡◌, drop, IfOk, IfErr};
+ghost use Rattle.std.specs.Prelude.{◌≡◌, drop, pos, IfSome, IfOk, IfErr};
 ghost use Rattle.num_fixed.specs.Bounds.{NumberInBounds};
 ghost use Rattle.num_fixed.specs.Fronts.{minus_len, whole_end as whole_end_of};
 ghost use Rattle.num_fixed.specs.Numeral.{Numeral, IsSaid, IsRefused};
+ghost use Rattle.num_fixed.specs.declared.number.Number.TheVariants.{Int};
 ghost use Rattle.json_text.specs.inside.Scan.{numeral_at, is_int as is_int_of, is_json_front as is_json_front_of};
 ghost use Rattle.json_text.specs.inside.Machine.{numeral_token as numeral_token_of};
 ghost use Rattle.json_text.specs.inside.Machine as m;
@@ -11,7 +12,7 @@ ghost use Rattle.item_reader.specs.Tokens.{StandsFor, IsPart};
 
 use crate::token::Token;
 use item_tree::{Item, Units, Whole};
-use num_fixed::{NumFault, Number, number_front};
+use num_fixed::{NumFault, Number, number_front, short_whole};
 
 fn is_int(digits: &[u8]) -> bool
     ensures { result ≡ is_int_of digits.now }
@@ -41,6 +42,7 @@ fn is_json_front(line: &[u8], whole_end: usize) -> bool
 }
 
 // The token of a number, or of one that is out of bounds.
+#[inline(always)]
 fn value_token(value: Result<Number, NumFault>) -> Token
     requires { IfOk value NumberInBounds }
     ensures { (n : Numeral) → IfOk value (IsSaid n) → IfErr value (IsRefused n) →
@@ -53,7 +55,28 @@ fn value_token(value: Result<Number, NumFault>) -> Token
     }
 }
 
+// The integer of these bits.
+fn whole(n: u64) -> Number
+    ensures { result ≡ Int (pos n) }
+{
+    Number::Int(i128::from(n))
+}
+
+/// The token of a number at the front, and what is behind it, where the number is whole and short
+/// and has no sign.
+#[inline(always)]
+pub fn short_number_token(line: &[u8]) -> Option<(Token, &[u8])>
+    ensures { IfSome result (λ p. IsPart p.0 p.1.now (numeral_token_of (numeral_at line.now))) }
+{
+    let (n, end) = short_whole(line)?;
+    if !is_json_front(line, end) {
+        return None;
+    }
+    Some((value_token(Ok(whole(n))), &line[end..]))
+}
+
 /// The token of a number at the front, and what is behind it.
+#[inline(never)]
 pub fn number_token(line: &[u8]) -> (Token, &[u8])
     ensures { IsPart result.0 result.1.now (numeral_token_of (numeral_at line.now)) }
 {

@@ -1,12 +1,12 @@
 //! Tokens, all but strings.
 
-ghost use Rattle.std.specs.Prelude.{◌≡◌, ◌≢◌, ◌∷◌, true, false, option_map};
+ghost use Rattle.std.specs.Prelude.{◌≡◌, ◌≢◌, ◌∷◌, true, false, option_map, IfSome};
 ghost use Rattle.json_text.specs.Json.{is_space};
 ghost use Rattle.json_text.specs.inside.Machine.{token_at, token_from as token_from_of, word_at};
 ghost use Rattle.json_text.specs.inside.Machine as m;
 ghost use Rattle.item_reader.specs.Tokens.{IsPart, is_mark, begins, behind_n, behind_t, behind_f, uncons as uncons_of};
 
-use crate::number::number_token;
+use crate::number::{number_token, short_number_token};
 use item_tree::Item;
 
 #[derive(Drop)]
@@ -98,6 +98,19 @@ fn false_token(line: &[u8]) -> (Token, &[u8])
         (Token::Atom(Item::Bool(false)), &line[4..])
     } else {
         (Token::Bad, &[])
+    }
+}
+
+// The token of a text that begins with this byte, where it is a short whole number.
+#[inline(always)]
+pub(crate) fn short_from<'a>(b: u8, rest: &'a [u8], line: &'a [u8]) -> Option<(Token, &'a [u8])>
+    requires { line.now ≡ b ∷ rest.now }
+    ensures { IfSome result (λ p. IsPart p.0 p.1.now (token_from_of b rest.now)) }
+{
+    if b.is_ascii_digit() {
+        short_number_token(line)
+    } else {
+        None
     }
 }
 

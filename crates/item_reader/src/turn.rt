@@ -13,7 +13,7 @@ ghost use Rattle.item_reader.specs.Turns.{IsTurn, IsAdded, Steps, Opens, PassesN
 
 use crate::build::{Build, Trouble};
 use crate::string::{escaped_text, plain_text};
-use crate::token::{Token, skip_spaces, uncons, value_from};
+use crate::token::{Token, short_from, skip_spaces, uncons, value_from};
 use byte_lanes::string_front;
 use item_tree::{Item, NoMemory, Str};
 use std::alloc::Global;
@@ -68,6 +68,7 @@ impl State {
         self.build.restart();
     }
 
+    #[inline(always)]
     #[tactic(auto, using(crate::proofs::Turning::kind_pushed))]
     fn open_array(&mut self, alloc: Global) -> Result<(), NoMemory>
         ensures { OnOk result (Opens true self.old self.new) }
@@ -392,6 +393,11 @@ impl State {
         }
         if b == b'"' {
             return self.take_string(alloc, rest);
+        }
+        // Most numbers are short and whole. Where their token is taken apart from the others,
+        // nothing is left to choose here either.
+        if let Some((token, behind)) = short_from(b, rest, line) {
+            return self.take_part(alloc, token, behind);
         }
         let (token, behind) = value_from(b, rest, line);
         self.take_part(alloc, token, behind)

@@ -1,14 +1,12 @@
 -- Numbers at the front of a text. For other crates too.
-use Rattle.std.proofs.Common.{◌≡◌, ◌≢◌, ◌⊎◌, inl, inr, ℕ, zero, suc, ◌+◌, ◌-◌, ◌*◌, ◌%◌, ◌^◌, ◌<◌, ◌≤◌, ◌==◌, nat_lt, pos, Bool, true, false, cond, ◌&&◌, ◌||◌, List, [], ◌∷◌, ◌++◌, length, get_or, take, drop, Option, Some, None, refl, sym, ◌∙◌, ap, subst, arith, length-append, length-drop, pow-add, IsSome}
+use Rattle.std.proofs.Common.{◌≡◌, ◌≢◌, ◌⊎◌, inl, inr, ℕ, zero, suc, ◌+◌, ◌-◌, ◌*◌, ◌%◌, ◌^◌, ◌<◌, ◌≤◌, ◌==◌, nat_lt, pos, Bool, true, false, cond, ◌&&◌, ◌||◌, List, [], ◌∷◌, ◌++◌, length, get_or, take, drop, Option, Some, None, refl, sym, ◌∙◌, ap, subst, arith, length-append, length-drop}
 use Rattle.std.specs.Char.{is_ascii_digit}
-use Rattle.std.specs.List.{list_all}
-use Rattle.std.proofs.lemmas.Bool.{cond_both, cond-true, cond-false, cases_Bool, cases_lt, ltb-true, ltb-false, lt-ltb, le-ltb, eqb-true, eqb-false, ne_eqb, and_parts, and_from, or_cases}
+use Rattle.std.proofs.lemmas.Bool.{cond_both, cond-true, cond-false, cases_Bool, cases_lt, ltb-true, lt-ltb, le-ltb, eqb-true, ne_eqb, and_parts, and_from, or_cases}
 use Rattle.std.proofs.lemmas.List.{at_drop_more, drop-drop, take-append-drop, append-nil, length-take-le}
-use Rattle.std.proofs.lemmas.List.Folds.{list_all-append, length-prefix_len}
+use Rattle.std.proofs.lemmas.List.Folds.{list_all-append}
 use Rattle.std.proofs.lemmas.List.Sums.{prefix_len-le-length}
-use Rattle.std.proofs.Math.Nat.{pow-le-pow_right, mul-le-mul_right, mul-le-mul_left}
+use Rattle.std.proofs.Math.Nat.{pow-le-pow_right, mul-le-mul_left}
 use Rattle.std.proofs.Math.Seq.{take-append_seam, take-length}
-use Rattle.num_fixed.specs.Bounds.{InBounds}
 use Rattle.num_fixed.specs.Fronts.{minus_len, sign_len, fraction_len, exponent_len, whole_end, fraction_end, number_end, has_number, minus_first, sign_first, fraction_of, exponent_of, whole_at, fraction_at, exponent_at, numeral_front, IsMinusOrNone, HasDigits, IsFront}
 use Rattle.num_fixed.specs.Nearest.{IsNearestUnit}
 use Rattle.num_fixed.specs.Numeral.{Sign, none, plus, minus, Numeral, AreDigits, IsSign, IsFrac, IsExp, IsNumeral, IsSaid, IsUnitsOf, frac_digits, is_minus, number_of}
@@ -17,7 +15,7 @@ use Rattle.num_fixed.specs.Signs.{with_sign}
 use Rattle.num_fixed.specs.inside.Spells.{spelled, IsKeptIn64, places_at, small_number}
 use Rattle.num_fixed.specs.declared.number.Kind.TheVariants.{Whole, Units}
 use Rattle.num_fixed.specs.declared.number.Number.TheVariants.{Int, Dec}
-use Rattle.num_fixed.proofs.DigitLemmas.{number_below, number-append, power_some}
+use Rattle.num_fixed.proofs.DigitLemmas.{number_below, number-append}
 use Rattle.num_fixed.proofs.NumeralLemmas.{numeral_cut, one_numeral}
 use Rattle.num_fixed.proofs.Reading.{digits_taken_are, units_read, signed_in_bounds}
 use Rattle.num_fixed.proofs.ScaleLemmas.{exact_up}
@@ -348,7 +346,7 @@ pub record AreLengths (l : List ℕ) (m w f x : ℕ) : Type 0 where
   pub exponent : x ≡ exponent_len (drop (m + w + f) l)
 
 -- a slice up to the end
-slice_rest : (l : List ℕ) (m : ℕ) → take (length l - m) (drop m l) ≡ drop m l
+pub slice_rest : (l : List ℕ) (m : ℕ) → take (length l - m) (drop m l) ≡ drop m l
 slice_rest l m = ap (λ k. take k (drop m l)) (sym (length-drop m l)) ∙ take-length (drop m l)
 
 pub number_kept : (l : List ℕ) (m n : ℕ) → IsKeptIn64 (spelled 0 (take (length l - m) (drop m l))) n → IsKeptIn64 (spelled 0 (drop m l)) n

@@ -12,5 +12,6 @@ pub mod TextLemmas
 pub mod NumeralLemmas
 pub mod FrontLemmas
 pub mod LongestFronts
+pub mod ShortFronts
 pub mod ValueLemmas
 mod ValueRows

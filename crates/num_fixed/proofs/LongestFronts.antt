@@ -1,13 +1,13 @@
 -- No longer number stands at the front of a text.
-use Rattle.std.proofs.Common.{◌≡◌, ◌≢◌, ◌⊎◌, inl, inr, ℕ, zero, suc, ◌+◌, ◌-◌, ◌<◌, ◌≤◌, ◌==◌, nat_lt, Bool, true, false, cond, ◌&&◌, ◌||◌, List, [], ◌∷◌, ◌++◌, length, take, drop, Option, Some, None, refl, sym, ◌∙◌, ap, subst, arith, length-append}
+use Rattle.std.proofs.Common.{◌≡◌, ◌⊎◌, inl, inr, ℕ, suc, ◌+◌, ◌<◌, ◌≤◌, nat_lt, List, [], ◌∷◌, ◌++◌, length, drop, Option, Some, None, refl, sym, ◌∙◌, ap, subst, arith, length-append}
 use Rattle.std.specs.Char.{is_ascii_digit}
 use Rattle.std.specs.List.{list_all}
-use Rattle.std.proofs.lemmas.Bool.{cond-true, cond-false, lt-ltb, and_parts}
+use Rattle.std.proofs.lemmas.Bool.{cond-true, lt-ltb, and_parts}
 use Rattle.std.proofs.lemmas.List.{drop-drop}
 use Rattle.std.proofs.Math.Seq.{drop-append_seam}
-use Rattle.num_fixed.specs.Fronts.{minus_len, sign_len, fraction_len, exponent_len, whole_end, fraction_end, number_end, has_number, IsMinusOrNone, HasDigits, IsFront}
+use Rattle.num_fixed.specs.Fronts.{minus_len, sign_len, fraction_len, exponent_len, whole_end, fraction_end, number_end, IsMinusOrNone, HasDigits, IsFront}
 use Rattle.num_fixed.specs.Laws.{IsReached}
-use Rattle.num_fixed.specs.Numeral.{Sign, none, plus, minus, Numeral, AreDigits, IsSign, IsFrac, IsExp, IsNumeral, frac_digits}
+use Rattle.num_fixed.specs.Numeral.{Sign, none, plus, minus, Numeral, AreDigits, IsSign, IsFrac, IsExp, frac_digits}
 use Rattle.num_fixed.specs.Scan.{digits_len}
 use Rattle.num_fixed.proofs.Reading.{Stops, digits_len-append, digit_no_sign}
 

@@ -1,12 +1,11 @@
 -- The functions give what their relations hold of. For other crates too.
-use Rattle.std.proofs.Common.{◌≡◌, ◌≢◌, ◌⊎◌, inl, inr, ◌<◌, ℕ, zero, suc, ◌+◌, ◌-◌, ◌*◌, ◌/◌, ◌%◌, ◌^◌, ◌==◌, nat_lt, ℤ, pos, negsuc, ◌+ℤ◌, ◌-ℤ◌, ◌*ℤ◌, neg_ℤ, int_div, int_rem, unsigned_abs, Bool, true, false, cond, ◌&&◌, List, ◌++◌, length, Option, Some, None, IsSome, is_none, refl, sym, ◌∙◌, ap, subst, arith}
+use Rattle.std.proofs.Common.{◌≡◌, ◌≢◌, ◌⊎◌, inl, inr, ◌<◌, ℕ, zero, suc, ◌+◌, ◌*◌, ◌/◌, ◌%◌, ◌^◌, ◌==◌, nat_lt, ℤ, pos, negsuc, ◌+ℤ◌, ◌*ℤ◌, neg_ℤ, int_div, int_rem, unsigned_abs, true, false, cond, ◌&&◌, List, length, Option, Some, None, is_none, refl, sym, ◌∙◌, subst, arith}
 use Rattle.std.specs.Prelude.{◌↔◌}
-use Rattle.std.proofs.lemmas.Bool.{cond_both, cases_Bool, ltb-true, ltb-false, lt-ltb, eqb-true, eqb-false}
+use Rattle.std.proofs.lemmas.Bool.{cond_both, cases_Bool, ltb-true, ltb-false, eqb-true, eqb-false}
 use Rattle.std.proofs.lemmas.Int.{ints}
 use Rattle.std.proofs.lemmas.Nat.{div-add-mod'}
 use Rattle.std.proofs.Math.Nat.{mod-lt, add-mul}
-use Rattle.std.proofs.Math.IntN.{neg_ℤ-neg_ℤ}
-use Rattle.num_fixed.specs.Bounds.{bound, InBounds, NumberInBounds, IsOver}
+use Rattle.num_fixed.specs.Bounds.{InBounds, NumberInBounds, IsOver}
 use Rattle.num_fixed.specs.Laws.{ToldBy, IsMet, IsSingle}
 use Rattle.num_fixed.specs.Nearest.{IsNearest, IsNearestNatural}
 use Rattle.num_fixed.specs.Numeral.{Sign, Numeral, Says, IsOutOfBounds, frac_digits, is_minus, number_of, lowered}

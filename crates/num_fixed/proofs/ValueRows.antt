@@ -1,11 +1,10 @@
 -- Values that the functions compute.
-use Rattle.std.proofs.Common.{◌≡◌, ℕ, ◌^◌, ◌*◌, ℤ, pos, negsuc, neg_ℤ, int_div, int_rem, Bool, true, false, List, [], ◌∷◌, Option, Some, None, refl}
+use Rattle.std.proofs.Common.{◌≡◌, ℕ, ◌^◌, pos, negsuc, neg_ℤ, int_div, int_rem, true, false, List, [], ◌∷◌, Option, Some, None, refl}
 use Rattle.std.specs.Prelude.{map, codes}
 use Rattle.num_fixed.specs.Numeral.{Sign, none, plus, minus, Numeral}
 use Rattle.num_fixed.specs.Totals.{nothing, tally_of}
 use Rattle.num_fixed.specs.Values.{in_bounds, number_in_bounds, near, near_natural, near_unit, product, whole_of, floor_of, ceiling_of, rounded_up, rounded_even, sum_of, mean_of, units_said, said}
 use Rattle.num_fixed.specs.declared.number.Kind.TheVariants.{Whole, Units}
-use Rattle.num_fixed.specs.declared.number.Number.{Number}
 use Rattle.num_fixed.specs.declared.number.Number.TheVariants.{Int, Dec}
 
 -- a row: what is computed, and what it is

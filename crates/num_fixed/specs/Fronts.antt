@@ -1,10 +1,11 @@
 -- The longest number at the front of a text, told by where each of its parts ends: a minus or none;
 -- digits; a point and digits, or none; and an exponent, or none. A digit stands before the
 -- exponent.
-use Rattle.std.specs.Prelude.{◌≡◌, ◌<◌, ℕ, ◌+◌, ◌==◌, ◌||◌, ◌&&◌, nat_lt, Bool, true, if◌then◌else◌, List, [], ◌∷◌, length, take, drop, Option, Some, None}
-use Rattle.num_fixed.specs.Numeral.{Sign, none, plus, minus, Numeral, IsNumeral}
+use Rattle.std.specs.Prelude.{◌≡◌, ◌<◌, ℕ, ◌+◌, ◌==◌, ◌||◌, ◌&&◌, nat_lt, Bool, false, not, pos, if◌then◌else◌, List, [], ◌∷◌, length, take, drop, Option, Some, None}
+use Rattle.num_fixed.specs.Numeral.{Sign, none, plus, minus, Numeral, IsNumeral, IsSaid, number_of}
 use Rattle.num_fixed.specs.Scan.{behind_sign, digits_len}
 use Rattle.num_fixed.specs.declared.front.NumberFront.{NumberFront}
+use Rattle.num_fixed.specs.declared.number.Number.TheVariants.{Int}
 
 -- ---- how long each part is at the front of a text
 
@@ -90,6 +91,26 @@ pub record AreEnds (l : List ℕ) (front : NumberFront) : Type 0 where
   pub whole : front.whole_end ≡ whole_end l
   pub fraction : front.fraction_end ≡ fraction_end l
   pub all : front.end ≡ number_end l
+
+-- ---- a short whole number without a sign
+
+-- a point or the letter e of either case stands there
+abbrev pub may_go_on : List ℕ → Bool
+may_go_on [] = false
+may_go_on (b ∷ l) = b == 46 || b == 101 || b == 69
+
+-- the number that 1 to 18 digits at the front spell, and how many they are, where nothing behind
+-- them may belong to it
+unfoldable pub short_whole : List ℕ → Option (ℕ × ℕ)
+short_whole l =
+    let d = digits_len l in
+    if nat_lt 0 d && nat_lt d 19 && not (may_go_on (drop d l))
+    then Some (number_of 0 (take d l), d) else None
+
+-- this number of so many bytes is the whole number at the front
+abbrev pub IsWholeFront : List ℕ → ℕ × ℕ → Type 0
+IsWholeFront l p =
+    (p.1 ≡ whole_end l) × (p.1 ≡ number_end l) × IsSaid (numeral_front l) (Int (pos p.0))
 
 -- ---- what such a number is
 

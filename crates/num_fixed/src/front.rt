@@ -1,5 +1,5 @@
 ghost use Rattle.std.specs.Prelude.{◌≡◌, ◌<◌, ◌≤◌, ◌-◌, ◌^◌, length, true, false, IfSome, IfNone, IfOk, IfErr};
-ghost use Rattle.num_fixed.specs.Fronts.{minus_len, sign_len, fraction_len, exponent_len, has_number, numeral_front, AreEnds};
+ghost use Rattle.num_fixed.specs.Fronts.{minus_len, sign_len, fraction_len, exponent_len, has_number, numeral_front, AreEnds, may_go_on as may_go_on_of, short_whole as short_whole_of, IsWholeFront};
 ghost use Rattle.num_fixed.specs.Numeral.{number_of, IsSaid, IsRefused};
 ghost use Rattle.num_fixed.specs.Scan.{digits_len};
 ghost use Rattle.num_fixed.specs.inside.Spells.{spelled, IsKeptIn64, places_at, small_number};
@@ -97,7 +97,8 @@ fn exponent_len(bytes: &[u8]) -> usize
 /// Whether what stands here may belong to a number whose digits are before it.
 #[tactic(auto, unfolding(crate::specs::Fronts::fraction_len, crate::specs::Fronts::exponent_len))]
 fn may_go_on(bytes: &[u8]) -> bool
-    ensures { result ≡ false → (fraction_len bytes.now ≡ 0) × (exponent_len bytes.now ≡ 0) }
+    ensures value { result ≡ may_go_on_of bytes.now }
+    ensures no { result ≡ false → (fraction_len bytes.now ≡ 0) × (exponent_len bytes.now ≡ 0) }
 {
     match bytes {
         [first, ..] => *first == b'.' || *first == b'e' || *first == b'E',
@@ -134,6 +135,21 @@ fn small_number(negative: bool, n: u64, fraction: usize) -> Number
     } else {
         Number::Dec(with_sign(negative, n * units_in_last(fraction)))
     }
+}
+
+/// The whole number at the front of some bytes and how many digits it has, where these are 1 to 18
+/// and have neither a sign before them nor a point or a letter e behind them. It is what
+/// [`number_front`] finds there, in fewer steps.
+#[inline(always)]
+pub fn short_whole(bytes: &[u8]) -> Option<(u64, usize)>
+    ensures value { result ≡ short_whole_of bytes.now }
+    ensures front { IfSome result (IsWholeFront bytes.now) }
+{
+    let (len, n) = digits_front(0, bytes);
+    if len == 0 || len > 18 || may_go_on(&bytes[len..]) {
+        return None;
+    }
+    Some((n, len))
 }
 
 /// The longest number at the front of some bytes: a minus or none, digits, a point and digits or

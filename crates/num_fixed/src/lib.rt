@@ -19,7 +19,7 @@ mod scale;
 mod sums;
 mod total;
 
-pub use front::{NumberFront, number_front};
+pub use front::{NumberFront, number_front, short_whole};
 pub use number::{Kind, NumFault, Number};
 pub use products::{div, idiv, mul};
 pub use read::{is_number, read_number};

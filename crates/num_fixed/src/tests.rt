@@ -377,6 +377,32 @@ fn fronts(rt: HostRuntime) {
 }
 
 #[test]
+fn short_whole_numbers(rt: HostRuntime) {
+    // a text, and the whole number at its front with how many digits it has
+    for (text, want) in [
+        (&b"0"[..], Some((0, 1))),
+        (b"7,", Some((7, 1))),
+        (b"00]", Some((0, 2))),
+        (b"120 .", Some((120, 3))),
+        (b"12a", Some((12, 2))),
+        (b"999999999999999999", Some((999_999_999_999_999_999, 18))),
+        (b"1000000000000000000", None),
+        (b"99999999999999999999999999", None),
+        (b"1.5", None),
+        (b"1.", None),
+        (b"2e", None),
+        (b"2E3", None),
+        (b"-1", None),
+        (b"+1", None),
+        (b".5", None),
+        (b"x", None),
+        (b"", None),
+    ] {
+        assert_eq!(rt; short_whole(text), want, "{text:?}");
+    }
+}
+
+#[test]
 fn no_numbers(rt: HostRuntime) {
     for text in [
         &b""[..],

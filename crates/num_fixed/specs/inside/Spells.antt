@@ -2,7 +2,7 @@
 use Rattle.std.specs.Prelude.{◌≡◌, ◌<◌, ℕ, ◌+◌, ◌-◌, ◌*◌, ◌^◌, ◌==◌, Bool, if◌then◌else◌, List, [], ◌∷◌, take}
 use Rattle.std.specs.Char.{is_ascii_digit}
 use Rattle.num_fixed.specs.Fronts.{fraction_len, fraction_of}
-use Rattle.num_fixed.specs.Numeral.{frac_digits, number_of}
+use Rattle.num_fixed.specs.Numeral.{frac_digits}
 use Rattle.num_fixed.specs.Signs.{with_sign}
 use Rattle.num_fixed.specs.declared.number.Number.{Number}
 use Rattle.num_fixed.specs.declared.number.Number.TheVariants.{Int, Dec}

@@ -1,5 +1,4 @@
-use Rattle.std.proofs.Common.{◌≡◌, ◌∙◌, ◌+◌, ◌-◌, ◌*◌, ◌%◌, ◌^◌, ℕ, ap, get_or, true, length, drop, arith, rules}
-use Rattle.std.specs.Char.{is_ascii_digit}
+use Rattle.std.proofs.Common.{◌≡◌, ◌∙◌, ◌+◌, ◌-◌, ◌*◌, ◌%◌, ◌^◌, ap, get_or, drop, arith, rules}
 use Rattle.num_fixed.specs.inside.Spells.{spelled}
 use Rattle.num_fixed.proofs.FrontLemmas.{length_more, number_more, number_end_here, number_all}
 use Rattle.num_fixed.proofs.front.digits_front.Goals as goal

@@ -1,4 +1,4 @@
-use Rattle.std.proofs.Common.{◌≡◌, ◌∷◌, ◌∙◌, ap, sym, subst, rules}
+use Rattle.std.proofs.Common.{◌≡◌, ◌∷◌, ◌∙◌, ap, subst, rules}
 use Rattle.num_fixed.specs.Scan.{digits_len}
 use Rattle.num_fixed.specs.inside.Spells.{spelled, IsKeptIn64}
 use Rattle.num_fixed.proofs.FrontLemmas.{places_read}

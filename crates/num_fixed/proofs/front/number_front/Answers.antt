@@ -10,7 +10,7 @@ small_number-requires-clause-digits c =
     let m = c.minus_len-minus.result in
     let w = c.digits_front-whole.result.0 in
     let n = c.digits_front-whole.result.1 in
-    let nothing = c.may_go_on.ensures c.if-not-may_go_on.true in
+    let nothing = c.may_go_on.ensures.no c.if-not-may_go_on.true in
     let h = lengths_of_whole l m w c.minus_len-minus.ensures.value c.digits_front-whole.ensures.length nothing.0 nothing.1 in
     (digits_read l m w 0 0 n n h (omega arith) (number_kept l m n c.digits_front-whole.ensures.number) (no_places l m w n h)).1
 
@@ -19,7 +19,7 @@ returns-then-not-may_go_on-clause-some c =
     let l = c.args.bytes.now in
     let m = c.minus_len-minus.result in
     let w = c.digits_front-whole.result.0 in
-    let nothing = c.may_go_on.ensures c.if-not-may_go_on.true in
+    let nothing = c.may_go_on.ensures.no c.if-not-may_go_on.true in
     let h = lengths_of_whole l m w c.minus_len-minus.ensures.value c.digits_front-whole.ensures.length nothing.0 nothing.1 in
     let fraction = fraction_ends_at l m w 0 0 h in
     let end = ends_at l m w 0 0 h in
@@ -31,7 +31,7 @@ returns-then-not-may_go_on-clause-value c =
     let m = c.minus_len-minus.result in
     let w = c.digits_front-whole.result.0 in
     let n = c.digits_front-whole.result.1 in
-    let nothing = c.may_go_on.ensures c.if-not-may_go_on.true in
+    let nothing = c.may_go_on.ensures.no c.if-not-may_go_on.true in
     let h = lengths_of_whole l m w c.minus_len-minus.ensures.value c.digits_front-whole.ensures.length nothing.0 nothing.1 in
     subst (IsSaid (numeral_front l)) (sym c.small_number.ensures) (small_read l m w 0 0 n n h (omega arith) (omega arith) refl (number_kept l m n c.digits_front-whole.ensures.number) (no_places l m w n h))
 
