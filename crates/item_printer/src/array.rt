@@ -1,11 +1,12 @@
 ghost use Rattle.std.specs.Prelude.{◌≡◌, ◌++◌, OnOk, OnErr};
 ghost use Rattle.item_tree.specs.Datum.{values, array_of_list};
-ghost use Rattle.item_tree.specs.Item.{datums};
+ghost use Rattle.item_tree.specs.Item.{datum, datums};
 ghost use Rattle.item_tree.specs.ItemText.{item_text, more_values_text};
 ghost use Rattle.item_printer.specs.Cut.{IsCut};
 
 use crate::append::{append, append_byte};
 use crate::item::print_item;
+use crate::number::print_integer;
 use item_tree::{Item, NoMemory};
 
 #[cycle(print)]
@@ -21,8 +22,21 @@ pub(crate) fn print_array(items: &[Item], out: &mut Vec<u8>) -> Result<(), NoMem
         return append(b"[]", out);
     };
     append_byte(b'[', out)?;
-    print_item(first, out)?;
+    print_value(first, out)?;
     print_more_values(more, out)
+}
+
+// Most values of arrays are integers, which are printed without a turn through all kinds.
+#[cycle(print)]
+#[inline(always)]
+fn print_value(item: &Item, out: &mut Vec<u8>) -> Result<(), NoMemory>
+    ensures ok { OnOk result (out.new.items ≡ out.old.items ++ item_text (datum item.now)) }
+    ensures err { OnErr result (IsCut (item_text (datum item.now)) out.old.items out.new.items) }
+{
+    match item {
+        Item::Int(n) => print_integer(*n, out),
+        _ => print_item(item, out),
+    }
 }
 
 // The values behind the first of an array, and its bracket.
@@ -35,7 +49,7 @@ fn print_more_values(items: &[Item], out: &mut Vec<u8>) -> Result<(), NoMemory>
 {
     for item in items {
         append_byte(b',', out)?;
-        print_item(item, out)?;
+        print_value(item, out)?;
     }
     append_byte(b']', out)
 }

@@ -13,9 +13,10 @@ use itoa::Buffer;
 fn only_digit(n: i128) -> Option<u8>
     ensures { IfSome result (λ digit. signed_decimal n ≡ digit ∷ []) }
 {
-    match u8::try_from(n) {
-        Ok(digit) if digit < 10 => Some(b'0' + digit),
-        _ => None,
+    if 0 <= n && n < 10 {
+        Some(b'0' + n as u8)
+    } else {
+        None
     }
 }
 

@@ -17,17 +17,17 @@ array::print_more_values-returns-in_err-append_byte-clause-err t c =
     stops_in _ (44 ∷ []) _ _ _ _ p c.in_err-append_byte.ensures.err in
     search rules
 
-pub array::print_more_values-print_item-requires : goal.array::print_more_values-print_item-requires
-array::print_more_values-print_item-requires t c =
+pub array::print_more_values-print_value-requires : goal.array::print_more_values-print_value-requires
+array::print_more_values-print_value-requires t c =
     let d = depth_at c.args.items.now c.loop-item.item-index c.item-item.result c.loop-item-test.true c.item-item.is in
     (omega arith, tt)
 
-pub array::print_more_values-returns-in_err-print_item-clause-err : goal.array::print_more_values-returns-in_err-print_item-clause-err
-array::print_more_values-returns-in_err-print_item-clause-err t c =
+pub array::print_more_values-returns-in_err-print_value-clause-err : goal.array::print_more_values-returns-in_err-print_value-clause-err
+array::print_more_values-returns-in_err-print_value-clause-err t c =
     let p = next_value _ c.args.items.now c.loop-item.item-index c.item-item.result _ _ c.loop-item-test.true c.item-item.is c.loop-item.invariant in
     let q = goes_on _ (44 ∷ []) _ _ _ _ p c.in_ok-append_byte.ensures.ok in
-    let cut : IsCut (more_values_text (values (datums c.args.items.now))) c.args.out.now.items c.print_item.new.out.items =
-    stops_in _ _ _ _ _ _ q c.in_err-print_item.ensures.err in
+    let cut : IsCut (more_values_text (values (datums c.args.items.now))) c.args.out.now.items c.print_value.new.out.items =
+    stops_in _ _ _ _ _ _ q c.in_err-print_value.ensures.err in
     search rules
 
 pub array::print_more_values-returns-clause-err : goal.array::print_more_values-returns-clause-err

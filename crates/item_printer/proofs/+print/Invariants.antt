@@ -12,6 +12,9 @@ decreases-item::print_item l = 4 * depth_of (datum l.item.now)
 abbrev pub decreases-array::print_array : goal.decreases-array::print_array
 decreases-array::print_array l = 4 * data_depth (values (datums l.items.now)) + 3
 
+abbrev pub decreases-array::print_value : goal.decreases-array::print_value
+decreases-array::print_value l = 4 * depth_of (datum l.item.now) + 1
+
 abbrev pub decreases-array::print_more_values : goal.decreases-array::print_more_values
 decreases-array::print_more_values l = 4 * data_depth (values (datums l.items.now)) + 2
 
