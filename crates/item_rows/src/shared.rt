@@ -1,5 +1,8 @@
 use crate::made::{numbered, one, samples};
-use item_tree::{Item, PairList, Str, array_from, deep_equal, object_from, object_of};
+use item_tree::{
+    FewIntegers, Item, PairList, Str, Whole, array_from, array_of_few, deep_equal, object_from,
+    object_of,
+};
 use std::alloc::Global;
 use std::test::Fail;
 
@@ -46,6 +49,48 @@ fn keeps_items_of_each_number(rt: HostRuntime) -> Result<(), Fail> {
         assert!(rt; has_items(&array, wanted.as_slice()), "{count} items");
         let copy = array.copy()?;
         assert!(rt; has_items(&copy, wanted.as_slice()), "{count} items");
+    }
+    Ok(())
+}
+
+#[test]
+fn makes_arrays_of_few_integers(rt: HostRuntime) -> Result<(), Fail> {
+    let alloc = rt.alloc();
+    let (a, b, c, d) = (
+        Whole::new(0),
+        Whole::new(-1),
+        Whole::new(99_999_999_999_999_999_999),
+        Whole::new(0),
+    );
+    let rows = [
+        FewIntegers::One(c),
+        FewIntegers::Two(a, b),
+        FewIntegers::Three(a, b, c),
+        FewIntegers::Four(a, b, c, d),
+    ];
+    for row in &rows {
+        let wanted = match row {
+            FewIntegers::One(_) => vec![in alloc; Item::Int(c)]?,
+            FewIntegers::Two(_, _) => vec![in alloc; Item::Int(a), Item::Int(b)]?,
+            FewIntegers::Three(_, _, _) => {
+                vec![in alloc; Item::Int(a), Item::Int(b), Item::Int(c)]?
+            }
+            FewIntegers::Four(_, _, _, _) => {
+                vec![in alloc; Item::Int(a), Item::Int(b), Item::Int(c), Item::Int(d)]?
+            }
+        };
+        let array = array_of_few(alloc, *row)?;
+        assert_eq!(rt; array.depth(), 1);
+        assert!(rt;
+            has_items(&array, wanted.as_slice()),
+            "{} items",
+            wanted.len()
+        );
+        assert!(rt;
+            has_items(&array.copy()?, wanted.as_slice()),
+            "{} items",
+            wanted.len()
+        );
     }
     Ok(())
 }

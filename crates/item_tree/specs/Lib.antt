@@ -5,6 +5,7 @@ pub mod Dates
 pub mod Datum
 pub mod DatumCode
 pub mod Item
+pub mod Few
 pub mod Falls
 pub mod Lookup
 pub mod Made

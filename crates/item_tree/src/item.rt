@@ -2,6 +2,7 @@ ghost use Rattle.std.specs.Prelude.{◌≡◌, IfOk};
 ghost use Rattle.std.specs.Arc.{arc_value};
 
 mod copy;
+mod few;
 mod find;
 mod make;
 mod pair_list;
@@ -9,6 +10,7 @@ mod pair_list;
 use crate::item::find::{place_among, value_at};
 use crate::shared::let_go;
 use crate::{Day, Moment, NoMemory, Str, Units, Whole};
+pub use few::{FewIntegers, array_of_few};
 pub use make::{array_from, array_of, object_from, object_of, object_of_distinct};
 pub use pair_list::PairList;
 use std::alloc::Global;

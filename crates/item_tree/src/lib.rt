@@ -32,7 +32,8 @@ pub use decimal::DecimalBuffer;
 pub use fault::{Fault, MakeFault, NoMemory, OpFault, Spot};
 pub use functions::FnId;
 pub use item::{
-    Item, Items, PairList, Pairs, array_from, array_of, object_from, object_of, object_of_distinct,
+    FewIntegers, Item, Items, PairList, Pairs, array_from, array_of, array_of_few, object_from,
+    object_of, object_of_distinct,
 };
 pub use key::{Key, key_of};
 pub use number::{Units, Whole};
