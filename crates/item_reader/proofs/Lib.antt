@@ -6,5 +6,7 @@ pub mod StringSteps
 pub mod LevelSteps
 pub mod Frames
 pub mod Turning
+pub mod ElementSteps
+pub mod RowSteps
 pub mod ReadingSteps
 pub mod Inputs

@@ -19,6 +19,10 @@ space_skipped l b r h e = ap token_at (cons_of l b r h) ∙ space_first b r e
 pub stops_there : (l : List ℕ) (b : ℕ) (r : List ℕ) → uncons l ≡ Some (b, r) → is_space b ≡ false → begins is_space l ≡ false
 stops_there l b r h e = ap (begins is_space) (cons_of l b r h) ∙ e
 
+-- no digit is a space
+pub no_space : (b : ℕ) → 48 ≤ b → is_space b ≡ false
+no_space b h = rw (ne_eqb b 32 (λ e. absurd (omega arith)), ne_eqb b 9 (λ e. absurd (omega arith)), ne_eqb b 10 (λ e. absurd (omega arith)), ne_eqb b 13 (λ e. absurd (omega arith))) refl
+
 pub stops_at_end : (l : List ℕ) → uncons l ≡ None → begins is_space l ≡ false
 stops_at_end l h = ap (begins is_space) (nil_of l h)
 

@@ -34,7 +34,7 @@ no_kinds zs e = rw e refl
 
 -- ---- steps
 
-emits : (x : b.Build) (e : m.Event) (r : m.Events) → b.outcome x (m.emit e r) ≡ b.outcome (b.perform x e) r
+pub emits : (x : b.Build) (e : m.Event) (r : m.Events) → b.outcome x (m.emit e r) ≡ b.outcome (b.perform x e) r
 emits x e None = refl
 emits x e (Some es) = refl
 
@@ -93,7 +93,7 @@ pub turn_text : (f : Bool) (old : State) (cs : List ℕ) (new : State) (t : m.To
 turn_text f old cs new t e s =
     subst (λ y. IsTurn (m.value f) old y More new) (sym e) (turn_steps (m.value f) old (m.characters cs) new (m.a_string cs) m.after (kinds_of old.kinds.items) (λ k. refl) (added_steps old (text cs) new (m.a_string cs) (λ fs. refl) s) tt)
 
-settled : (n : Numeral) (y : Datum) → b.number_outcome (said n) ≡ Ok y → (fs : List b.Frame) → b.act (m.a_number n) fs ≡ b.add y fs
+pub settled : (n : Numeral) (y : Datum) → b.number_outcome (said n) ≡ Ok y → (fs : List b.Frame) → b.act (m.a_number n) fs ≡ b.add y fs
 settled n y e fs = ap (λ o. b.settle o fs) e
 
 pub turn_atom : (f : Bool) (old : State) (y : Datum) (new : State) (t : m.Token) → IsAtom y t → IsAdded old y new → IsTurn (m.value f) old t More new
@@ -233,7 +233,7 @@ pub turned : (old new : State) (r : Turn) (rest : List ℕ) (whole : Option b.Bu
 turned old new r rest whole t h =
     sym (t.gives (λ m2 ks2. m.run m2 ks2 (m.token_at rest).1)) ∙ sym (ap (b.outcome (build_of old.build)) (run_turn (mode_of old.mode) (kinds_of old.kinds.items) rest)) ∙ h
 
-shorter : (t : m.Token) (l r : List ℕ) → Takes t More → (t ≡ m.end) ⊎ ((t ≡ m.bad) ⊎ (length r < length l)) → length r < length l
+pub shorter : (t : m.Token) (l r : List ℕ) → Takes t More → (t ≡ m.end) ⊎ ((t ≡ m.bad) ⊎ (length r < length l)) → length r < length l
 shorter t l r h (inl e) = absurd (subst (λ y. Takes y More) e h)
 shorter t l r h (inr (inl e)) = absurd (subst (λ y. Takes y More) e h)
 shorter t l r h (inr (inr s)) = s
@@ -243,7 +243,7 @@ behind_shorter old new rest t = shorter (m.token_at rest).0 rest (m.token_at res
 
 -- ---- marks that are passed
 
-comma_there : (rest : List ℕ) → m.token_at (44 ∷ rest) ≡ (m.comma, rest)
+pub comma_there : (rest : List ℕ) → m.token_at (44 ∷ rest) ≡ (m.comma, rest)
 unfolding m.token_at m.token_from
 comma_there rest = refl
 

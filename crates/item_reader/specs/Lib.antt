@@ -8,5 +8,6 @@ pub mod Tokens
 pub mod FrameCode
 pub mod Levels
 pub mod View
+pub mod Rows
 pub mod Turns
 pub mod Strings

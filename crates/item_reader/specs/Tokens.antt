@@ -1,6 +1,6 @@
 -- What the code's tokens stand for.
-use Rattle.std.specs.Prelude.{◌≡◌, ◌==◌, ◌||◌, ℕ, Bool, false, List, [], ◌∷◌, Option, Some, None, Ok, Err}
-use Rattle.item_tree.specs.Datum.{Datum, null, boolean}
+use Rattle.std.specs.Prelude.{◌≡◌, ◌==◌, ◌||◌, ℕ, ℤ, Bool, false, List, [], ◌∷◌, Option, Some, None, Ok, Err}
+use Rattle.item_tree.specs.Datum.{Datum, null, boolean, integer}
 use Rattle.item_tree.specs.Item.{datum}
 use Rattle.json_text.specs.Meaning.{number_out}
 use Rattle.json_text.specs.inside.Machine as m
@@ -35,6 +35,10 @@ StandsFor Bad t = t ≡ m.bad
 -- a token and the bytes behind it
 abbrev pub IsPart : Token → List ℕ → m.Token × List ℕ → Type 0
 IsPart t r p = StandsFor t p.0 × (r ≡ p.1)
+
+-- an integer and the bytes behind it
+abbrev pub IsInteger : ℤ → List ℕ → m.Token × List ℕ → Type 0
+IsInteger n r p = IsAtom (integer n) p.0 × (r ≡ p.1)
 
 -- what stands behind the first letter of null, of true and of false
 abbrev pub behind_n : List ℕ

@@ -1,6 +1,6 @@
 -- One turn of the machine, in the code.
 use denote.Ref.{Bor}
-use Rattle.std.specs.Prelude.{◌≡◌, ℕ, ◌≤◌, List, ◌∷◌, length, Bool, true, false, Option, Some, None, Result, IfOk}
+use Rattle.std.specs.Prelude.{◌≡◌, ℕ, ◌<◌, ◌≤◌, List, ◌∷◌, length, Bool, true, false, Option, Some, None, Result, IfOk}
 use Rattle.json_text.specs.inside.Machine as m
 use Rattle.json_text.specs.inside.Build as b
 use Rattle.num_fixed.specs.Numeral.{Numeral}
@@ -108,6 +108,12 @@ pub record Passes (old : State) (line : List ℕ) (new : State) (left : List ℕ
   pub same : comes_of new left ≡ comes_of old line
   pub fits : BuildFits (build_of old.build) → BuildFits (build_of new.build)
   pub within : length left ≤ length line
+
+-- an array at the front is passed, or nothing is done
+abbrev pub TakesRow : State → List ℕ → Option (Bor (List ℕ)) → State → Type 0
+TakesRow old line None new = new ≡ old
+TakesRow old line (Some behind) new =
+    Passes old line new behind.now × (length behind.now < length line)
 
 -- what the machine does at a comma behind a value: it stops, or goes on in this mode
 abbrev pub comma_turn : Option Mode → m.Kinds → m.Turn

@@ -1,5 +1,5 @@
 -- What the code's state stands for.
-use Rattle.std.specs.Prelude.{◌≡◌, Bool, true, false, List, reverse, Option, Some, None}
+use Rattle.std.specs.Prelude.{◌≡◌, Bool, true, false, nat_lt, List, length, reverse, Option, Some, None}
 use Rattle.item_tree.specs.Item.{datum}
 use Rattle.json_text.specs.Meaning as j
 use Rattle.json_text.specs.inside.Machine as m
@@ -36,6 +36,12 @@ built_if false x = None
 
 abbrev pub frames_in : Build → List b.Frame
 frames_in x = x.levels
+
+-- one more container may open
+abbrev pub may_open : b.Build → Bool
+may_open (b.building fs) = nat_lt (length fs) 128
+may_open (b.done x) = false
+may_open (b.troubled t) = false
 
 abbrev pub mode_of : Mode → m.Mode
 mode_of (Value f) = m.value f

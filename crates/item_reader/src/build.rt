@@ -4,7 +4,7 @@ ghost use Rattle.std.specs.Prelude.{◌≡◌, true, OnOk};
 ghost use Rattle.item_tree.specs.Item.{datum};
 ghost use Rattle.json_text.specs.inside.Build.{start, push_frame as push_frame_of, add as add_of, close as close_of, set_key as set_key_of, troubled};
 ghost use Rattle.item_reader.specs.Levels.{empty_frame};
-ghost use Rattle.item_reader.specs.View.{is_open as is_open_of, Does, frames_in, build_of, trouble_of};
+ghost use Rattle.item_reader.specs.View.{is_open as is_open_of, may_open, Does, frames_in, build_of, trouble_of};
 ghost use Rattle.json_text.specs.inside.Fits.{BuildFits};
 
 use crate::levels::Levels;
@@ -70,6 +70,14 @@ impl Build {
             Progress::Done(_) => false,
             Progress::Troubled(_) => false,
         }
+    }
+
+    /// Whether one more container may open.
+    #[inline(always)]
+    pub fn may_open(&self) -> bool
+        ensures { result ≡ may_open (build_of self.now) }
+    {
+        self.is_open() && self.levels.len() < MOST_OPEN
     }
 
     #[inline(always)]

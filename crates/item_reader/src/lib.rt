@@ -7,6 +7,7 @@ pub mod laws;
 mod levels;
 mod number;
 mod read;
+mod row;
 mod string;
 #[cfg(test)]
 mod tests;

@@ -4,11 +4,10 @@ ghost use Rattle.std.specs.Prelude.{◌≡◌, drop, pos, IfSome, IfOk, IfErr};
 ghost use Rattle.num_fixed.specs.Bounds.{NumberInBounds};
 ghost use Rattle.num_fixed.specs.Fronts.{minus_len, whole_end as whole_end_of};
 ghost use Rattle.num_fixed.specs.Numeral.{Numeral, IsSaid, IsRefused};
-ghost use Rattle.num_fixed.specs.declared.number.Number.TheVariants.{Int};
 ghost use Rattle.json_text.specs.inside.Scan.{numeral_at, is_int as is_int_of, is_json_front as is_json_front_of};
 ghost use Rattle.json_text.specs.inside.Machine.{numeral_token as numeral_token_of};
 ghost use Rattle.json_text.specs.inside.Machine as m;
-ghost use Rattle.item_reader.specs.Tokens.{StandsFor, IsPart};
+ghost use Rattle.item_reader.specs.Tokens.{StandsFor, IsPart, IsInteger};
 
 use crate::token::Token;
 use item_tree::{Item, Units, Whole};
@@ -55,24 +54,26 @@ fn value_token(value: Result<Number, NumFault>) -> Token
     }
 }
 
-// The integer of these bits.
-fn whole(n: u64) -> Number
-    ensures { result ≡ Int (pos n) }
+/// The integer of these bits.
+#[inline(always)]
+pub fn whole(n: u64) -> Whole
+    ensures { result ≡ pos n }
 {
-    Number::Int(i128::from(n))
+    Whole::new(i128::from(n))
 }
 
-/// The token of a number at the front, and what is behind it, where the number is whole and short
-/// and has no sign.
+/// A number at the front, and what is behind it, where the number is whole and short and has no
+/// sign.
 #[inline(always)]
-pub fn short_number_token(line: &[u8]) -> Option<(Token, &[u8])>
-    ensures { IfSome result (λ p. IsPart p.0 p.1.now (numeral_token_of (numeral_at line.now))) }
+pub fn short_number(line: &[u8]) -> Option<(u64, &[u8])>
+    ensures { IfSome result (λ p.
+        IsInteger (pos p.0) p.1.now (numeral_token_of (numeral_at line.now))) }
 {
     let (n, end) = short_whole(line)?;
     if !is_json_front(line, end) {
         return None;
     }
-    Some((value_token(Ok(whole(n))), &line[end..]))
+    Some((n, &line[end..]))
 }
 
 /// The token of a number at the front, and what is behind it.

@@ -34,6 +34,10 @@ impl Reader {
         self.state.restart();
         let mut rest = line;
         'tokens: loop {
+            if let Some(behind) = self.state.take_row(alloc, rest)? {
+                rest = self.state.pass_mark(behind);
+                continue;
+            }
             let (turn, behind) = self.state.take_next(alloc, rest)?;
             match turn {
                 Turn::More => rest = self.state.pass_mark(behind),

@@ -67,6 +67,15 @@ fn reads_values(rt: HostRuntime) {
         (b" [ ] ", Answer::Array(0)),
         (b"[1 , 2,\"a\"]", Answer::Array(3)),
         (b"[1,]", NOT_JSON),
+        (b"[1,2,]", NOT_JSON),
+        (b"[1,2", NOT_JSON),
+        (b"[1,2}", NOT_JSON),
+        (b"[1,2:3]", NOT_JSON),
+        (b"[01]", NOT_JSON),
+        (b"[1,02]", NOT_JSON),
+        (b"[1,2][3]", NOT_JSON),
+        (b"{[1]:2}", NOT_JSON),
+        (b"{\"a\"[1]}", NOT_JSON),
         (b"[,1]", NOT_JSON),
         (b"[1 2]", NOT_JSON),
         (b"[1", NOT_JSON),
@@ -249,6 +258,37 @@ fn the_first_trouble_decides(rt: HostRuntime) {
     }
 }
 
+fn are_equal(alloc: Global, one: &[u8], other: &[u8]) -> Result<bool, Fail> {
+    match (read_item(alloc, one), read_item(alloc, other)) {
+        (Ok(Some(x)), Ok(Some(y))) => Ok(deep_equal(&vec![in alloc; x]?, &vec![in alloc; y]?)),
+        _ => Ok(false),
+    }
+}
+
+// An array of a few short numbers is read in one turn, and with a space in it as any other.
+#[test]
+fn spaces_change_no_array(rt: HostRuntime) -> Result<(), Fail> {
+    let lines = [
+        (b"[7]".as_slice(), b"[ 7]".as_slice()),
+        (b"[0,12]", b"[0 ,12]"),
+        (b"[1,2,3]", b"[1,2,3 ]"),
+        (b"[4,3,2,1]", b"[4,3,2, 1]"),
+        (b"[1,2,3,4,5]", b"[1, 2,3,4,5]"),
+        (b"[999999999999999999,0]", b"[999999999999999999 ,0]"),
+        (b"[0,1000000000000000000]", b"[0,1000000000000000000 ]"),
+        (b"[-1,1]", b"[ -1,1]"),
+        (b"[1,2.5,1e2]", b"[1, 2.5,1e2]"),
+        (b"[[1],[2,3],4]", b"[ [1 ],[2, 3],4]"),
+        (b"[1,[2,3,[4]],[]]", b"[1 ,[2 ,3,[ 4]],[]]"),
+        (b"{\"a\":[1,2],\"b\":[3]}", b"{\"a\":[1, 2],\"b\":[ 3]}"),
+    ];
+    for (one, other) in lines {
+        assert!(rt; are_equal(rt.alloc(), one, other)?, "at {one:?}");
+    }
+    assert!(rt; !are_equal(rt.alloc(), b"[1,2]", b"[2, 1]")?);
+    Ok(())
+}
+
 // A line of so many brackets that open, a text, and so many that close.
 fn nested(alloc: Global, opened: usize, text: &str, closed: usize) -> Result<Vec<u8>, Fail> {
     let mut line = Vec::new(alloc);
@@ -270,6 +310,8 @@ fn counts_open_brackets(rt: HostRuntime) -> Result<(), Fail> {
         (127, "[{}]", 127, TOO_DEEP),
         (127, "[],{}", 127, Answer::Array(1)),
         (128, "1", 128, Answer::Array(1)),
+        (129, "1", 129, TOO_DEEP),
+        (127, "[1,2],[3]", 127, Answer::Array(1)),
         (129, "", 129, TOO_DEEP),
         (129, "", 128, NOT_JSON),
         (129, "1e400", 129, TOO_DEEP),

@@ -6,7 +6,7 @@ ghost use Rattle.json_text.specs.inside.Machine.{token_at, token_from as token_f
 ghost use Rattle.json_text.specs.inside.Machine as m;
 ghost use Rattle.item_reader.specs.Tokens.{IsPart, is_mark, begins, behind_n, behind_t, behind_f, uncons as uncons_of};
 
-use crate::number::{number_token, short_number_token};
+use crate::number::{number_token, short_number, whole};
 use item_tree::Item;
 
 #[derive(Drop)]
@@ -107,10 +107,12 @@ pub(crate) fn short_from<'a>(b: u8, rest: &'a [u8], line: &'a [u8]) -> Option<(T
     requires { line.now ≡ b ∷ rest.now }
     ensures { IfSome result (λ p. IsPart p.0 p.1.now (token_from_of b rest.now)) }
 {
-    if b.is_ascii_digit() {
-        short_number_token(line)
-    } else {
-        None
+    if !b.is_ascii_digit() {
+        return None;
+    }
+    match short_number(line) {
+        None => None,
+        Some((n, behind)) => Some((Token::Atom(Item::Int(whole(n))), behind)),
     }
 }
 

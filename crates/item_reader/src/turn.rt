@@ -9,13 +9,14 @@ ghost use Rattle.json_text.specs.inside.Build.{start};
 ghost use Rattle.item_reader.specs.Tokens.{StandsFor};
 ghost use Rattle.item_reader.specs.View.{build_of, mode_of, kinds_of};
 ghost use Rattle.json_text.specs.inside.Fits.{BuildFits};
-ghost use Rattle.item_reader.specs.Turns.{IsTurn, IsAdded, Steps, Opens, PassesNumber, Passes, GoesOn, TurnsBy, TurnsPart, GivesTurn, closing};
+ghost use Rattle.item_reader.specs.Turns.{IsTurn, IsAdded, Steps, Opens, PassesNumber, Passes, GoesOn, TurnsBy, TurnsPart, GivesTurn, TakesRow, closing};
 
 use crate::build::{Build, Trouble};
+use crate::row::row_front;
 use crate::string::{escaped_text, plain_text};
 use crate::token::{Token, short_from, skip_spaces, uncons, value_from};
 use byte_lanes::string_front;
-use item_tree::{Item, NoMemory, Str};
+use item_tree::{Item, NoMemory, Str, array_of_few};
 use std::alloc::Global;
 
 #[derive(Clone, Copy, Debug)]
@@ -416,6 +417,35 @@ impl State {
         match uncons(left) {
             None => self.take_part(alloc, Token::End, &[]),
             Some((b, rest)) => self.take_from(alloc, b, rest, left),
+        }
+    }
+
+    /// An array of a few short numbers at the front, where a value may come, goes in as one value,
+    /// and no level opens for it. This is what is behind it. Where there is none, nothing is done.
+    #[inline(always)]
+    pub fn take_row<'a>(
+        &mut self,
+        alloc: Global,
+        line: &'a [u8],
+    ) -> Result<Option<&'a [u8]>, NoMemory>
+        ensures { IfOk result (λ o. TakesRow self.old line.now o self.new) }
+    {
+        let Some((b'[', inside)) = uncons(line) else {
+            return Ok(None);
+        };
+        let Mode::Value(_) = self.mode else {
+            return Ok(None);
+        };
+        if !self.build.may_open() {
+            return Ok(None);
+        }
+        match row_front(inside) {
+            None => Ok(None),
+            Some((numbers, behind)) => {
+                let row = array_of_few(alloc, numbers)?;
+                self.add(alloc, row)?;
+                Ok(Some(behind))
+            }
         }
     }
 }
