@@ -1,3 +1,5 @@
+//! Arrays and their values.
+
 ghost use Rattle.std.specs.Prelude.{◌≡◌, ◌++◌, OnOk, OnErr};
 ghost use Rattle.item_tree.specs.Datum.{values, array_of_list};
 ghost use Rattle.item_tree.specs.Item.{datum, datums};
@@ -26,7 +28,7 @@ pub(crate) fn print_array(items: &[Item], out: &mut Vec<u8>) -> Result<(), NoMem
     print_more_values(more, out)
 }
 
-// Most values of arrays are integers, which are printed without a turn through all kinds.
+// Integers and arrays are printed without a turn through all kinds.
 #[cycle(print)]
 #[inline(always)]
 fn print_value(item: &Item, out: &mut Vec<u8>) -> Result<(), NoMemory>
@@ -35,6 +37,7 @@ fn print_value(item: &Item, out: &mut Vec<u8>) -> Result<(), NoMemory>
 {
     match item {
         Item::Int(n) => print_integer(*n, out),
+        Item::Array(items) => print_array(items.as_slice(), out),
         _ => print_item(item, out),
     }
 }
