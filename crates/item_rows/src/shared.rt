@@ -60,7 +60,7 @@ fn makes_arrays_of_few_integers(rt: HostRuntime) -> Result<(), Fail> {
         Whole::new(0),
         Whole::new(-1),
         Whole::new(99_999_999_999_999_999_999),
-        Whole::new(0),
+        Whole::new(7),
     );
     let rows = [
         FewIntegers::One(c),
