@@ -10,6 +10,3 @@ mod strings;
 
 pub use lines::{count_newlines, first_newline, is_blank};
 pub use strings::{first_string_stop, string_front};
-
-#[cfg(test)]
-mod tests;

@@ -94,6 +94,3 @@ mod token;
 pub use cursor::{Cursor, Stop};
 pub use repetition::{list, repeat, repeat_some};
 pub use token::TokenClass;
-
-#[cfg(test)]
-mod tests;

@@ -10,6 +10,3 @@ mod seeded;
 mod table;
 
 pub use table::GroupTable;
-
-#[cfg(test)]
-mod tests;

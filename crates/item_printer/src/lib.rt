@@ -9,6 +9,3 @@ mod object;
 mod string;
 
 pub use item::print_item;
-
-#[cfg(test)]
-mod tests;

@@ -9,8 +9,6 @@ mod number;
 mod read;
 mod row;
 mod string;
-#[cfg(test)]
-mod tests;
 mod token;
 mod turn;
 

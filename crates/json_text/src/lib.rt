@@ -6,6 +6,3 @@ mod escapes;
 pub mod laws;
 
 pub use escapes::{Spelled, escape_at, is_raw, push_spelled};
-
-#[cfg(test)]
-mod tests;

@@ -9,9 +9,6 @@ use item_tree::NoMemory;
 use itoa::Buffer;
 use std::alloc::{AllocError, Global};
 
-#[cfg(test)]
-mod tests;
-
 /// The most bytes that a line takes, whatever its number.
 const MAX_LINE: usize = 38;
 

@@ -17,6 +17,3 @@ pub use fault::PieceFault;
 pub use lines::Line;
 pub use piece::{count_lines, piece_lines};
 pub use read::read_whole;
-
-#[cfg(test)]
-mod tests;

@@ -14,6 +14,3 @@ pub use class_seen::ClassSeen;
 pub use column::Column;
 pub use merge::{MergeFault, merge_runs};
 pub use run::{Run, SortFault, sort_keyed};
-
-#[cfg(test)]
-mod tests;

@@ -23,6 +23,3 @@ pub use names::names_differ;
 pub use sink::{Failed, Sink, write_all};
 pub use slow::{SlowFile, SlowInputs};
 pub use steady::{SteadyFile, SteadyInputs};
-
-#[cfg(test)]
-mod tests;

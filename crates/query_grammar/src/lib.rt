@@ -11,6 +11,3 @@ pub use class::Class;
 pub use part::Part;
 pub use word::{Kind, Value, Word};
 pub use words::words_of;
-
-#[cfg(test)]
-mod tests;

@@ -17,6 +17,3 @@ mod words;
 pub use lexer::tokens;
 pub use token::{LexFault, Token, TokenKind};
 pub use value::text_value;
-
-#[cfg(test)]
-mod tests;

@@ -11,8 +11,3 @@ mod statements;
 mod values;
 
 pub use reading::{ParseFault, parse, parse_at};
-
-#[cfg(test)]
-mod printed;
-#[cfg(test)]
-mod tests;

@@ -29,6 +29,3 @@ pub use operator::{CompareOp, ProductOp, Quantifier, SumOp};
 pub use part::{Bind, Case, Catch, Factor, Operand, Pair, Term, TypeCase};
 pub use slots::clause_slots;
 pub use step::{Lookup, Step};
-
-#[cfg(test)]
-mod tests;

@@ -21,18 +21,10 @@ mod lone_input;
 mod mark;
 mod place;
 mod print;
-#[cfg(test)]
-mod query_tests;
 mod read;
-#[cfg(test)]
-mod rule_tests;
 mod status;
 mod telling;
-#[cfg(test)]
-mod tests;
 mod trial;
-#[cfg(test)]
-mod word_tests;
 
 use crate::decide::decide;
 use crate::finish::{finish, tell};

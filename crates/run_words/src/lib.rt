@@ -13,6 +13,3 @@ mod task;
 
 pub use read::read_words;
 pub use task::{Task, WordFault};
-
-#[cfg(test)]
-mod tests;

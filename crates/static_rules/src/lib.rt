@@ -20,6 +20,3 @@ mod walk;
 
 pub use compiling::{CompileFault, compile};
 pub use rules::{Refusal, Rule};
-
-#[cfg(test)]
-mod tests;

@@ -7,6 +7,3 @@ mod tuple;
 
 pub use rows::Rows;
 pub use tuple::Tuple;
-
-#[cfg(test)]
-mod tests;

@@ -1,0 +1,18 @@
+//! Tests of the top call over inputs in memory, most of them as tables of queries. There is nothing
+//! else in this crate.
+#![tactic(auto)]
+
+#[cfg(test)]
+mod failures;
+#[cfg(test)]
+mod lines;
+#[cfg(test)]
+mod queries;
+#[cfg(test)]
+mod refusals;
+#[cfg(test)]
+mod rules;
+#[cfg(test)]
+mod runs;
+#[cfg(test)]
+mod words;
