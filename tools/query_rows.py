@@ -17,7 +17,8 @@ A row of rows.txt is some lines, with an empty line behind them:
 rules, never from running the program. Run it again after a change of the table: tools/query_rows.py
 
 tools/query_rows.py --run PROGRAM writes nothing: it runs each row with a built program, and
-compares what that prints.
+compares what that prints. It runs the rows of examples/tables/*.txt too, which have the same form and
+of which nothing is proved.
 """
 import json
 import re
@@ -29,8 +30,10 @@ from pathlib import Path
 
 from layout import without_unused
 
-TOP = Path(__file__).resolve().parent.parent / "crates"
+REPOSITORY = Path(__file__).resolve().parent.parent
+TOP = REPOSITORY / "crates"
 ROWS = TOP / "query_rows"
+TABLES = REPOSITORY / "examples" / "tables"
 WORDS = (TOP / "query_grammar" / "specs" / "Words.antt").read_text()
 GRAMMAR = (TOP / "query_grammar" / "specs" / "Grammar.antt").read_text()
 
@@ -297,7 +300,8 @@ def run_row(program, name, query, inputs, gives):
 
 def run_rows(program):
     """The exit status: 0 where some rows passed and none failed."""
-    rows = [row for _, rows in written_table() for row in rows]
+    tables = [written_table()] + [read_table(t.read_text()) for t in sorted(TABLES.glob("*.txt"))]
+    rows = [row for table in tables for _, rows in table for row in rows]
     ended = Counter(run_row(program, *row) for row in rows)
     print("rows: %(passed)d passed, %(failed)d failed, %(skipped)d skipped" % ended)
     return 0 if ended["passed"] and not ended["failed"] else 1
