@@ -3,7 +3,7 @@
 declare variable $names := ("()", "null", "true", "7", "-2.5", "a", "date", "time", "[]", "{}", "two");
 declare variable $operands := [
   [], [null], [true], [7], [-2.5], ["a"],
-  ["2024-02-29" cast as date], ["2024-02-29" cast as dateTime], [[]], [{}], [null, 7]
+  ["2024-02-29" cast as date], ["2024-02-29T00:00:00" cast as dateTime], [[]], [{}], [null, 7]
 ];
 declare variable $types := ("string", "integer", "decimal", "boolean", "null", "date", "dateTime");
 declare variable $widths := (23, 9, 9, 9, 9, 11, 20);

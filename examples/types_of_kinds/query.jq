@@ -6,7 +6,7 @@ declare variable $types := (
 );
 declare variable $names := ("{}", "[]", "'null'", "1", "1.0", "false", "null", "date", "time");
 declare variable $items := (
-  {}, [], "null", 1, 1.0, false, null, "2024-02-29" cast as date, "2024-02-29" cast as dateTime
+  {}, [], "null", 1, 1.0, false, null, "2024-02-29" cast as date, "2024-02-29T00:00:00" cast as dateTime
 );
 
 declare function fits($type, $s) {
