@@ -19,6 +19,3 @@ pub use extremes::{MaxPart, MinPart, max, min};
 pub use partial::Partial;
 pub use roundings::{abs, ceiling, floor, round, round_half_to_even};
 pub use totals::{AvgPart, SumPart, avg, sum};
-
-#[cfg(test)]
-mod tests;

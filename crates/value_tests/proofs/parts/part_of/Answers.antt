@@ -2,7 +2,7 @@ use Rattle.std.proofs.Common.{take, sym, subst, arith}
 use Rattle.std.proofs.lemmas.List.{length-map, length-take}
 use Rattle.item_tree.specs.Item.{datum, datums}
 use Rattle.fn_numbers.proofs.ItemLemmas.{datums_more}
-use Rattle.fn_numbers.proofs.tests.parts.part_of.Goals as goal
+use Rattle.value_tests.proofs.parts.part_of.Goals as goal
 
 pub add-requires : goal.add-requires
 add-requires g c =

@@ -1,8 +1,10 @@
+//! Parts of the values of `count`, `sum`, `avg`, `min` and `max`, merged in order.
+
 ghost use Rattle.std.specs.Prelude.{◌+◌, ◌<◌, ◌≤◌, length, IfOk};
 ghost use Rattle.item_tree.specs.Item.{datums};
 
-use crate::tests::items::{items, shown};
-use crate::{AvgPart, CountPart, MaxPart, MinPart, Partial, SumPart};
+use crate::items::{items, shown};
+use fn_numbers::{AvgPart, CountPart, MaxPart, MinPart, Partial, SumPart};
 use item_tree::{Item, NoMemory, OpFault};
 use std::alloc::Global;
 use std::process::Abort;

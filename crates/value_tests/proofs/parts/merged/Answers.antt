@@ -1,7 +1,7 @@
 use Rattle.std.proofs.Common.{◌++◌, length-append, arith}
 use Rattle.std.proofs.lemmas.List.{length-map}
 use Rattle.item_tree.specs.Item.{datum, datums}
-use Rattle.fn_numbers.proofs.tests.parts.merged.Goals as goal
+use Rattle.value_tests.proofs.parts.merged.Goals as goal
 
 pub merge-requires-then-left : goal.merge-requires-then-left
 merge-requires-then-left g c =

@@ -1,6 +1,6 @@
 use Rattle.std.proofs.Common.{take}
 use Rattle.item_tree.specs.Item.{datums}
-use Rattle.fn_numbers.proofs.tests.parts.part_of.Given as goal
+use Rattle.value_tests.proofs.parts.part_of.Given as goal
 
 abbrev pub invariant-loop-x : goal.invariant-loop-x
 invariant-loop-x g l = g.P.Partial.stands l.part (datums (take l.x-index l.s))

@@ -1,3 +1,0 @@
-mod items;
-mod parts;
-mod rows;
