@@ -26,6 +26,3 @@ pub use read::{is_number, read_number};
 pub use rounding::{ceiling, floor, round, round_even, to_units, whole_part};
 pub use sums::{add, rem, sub};
 pub use total::Total;
-
-#[cfg(test)]
-mod tests;
