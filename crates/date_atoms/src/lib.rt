@@ -11,6 +11,3 @@ mod tails;
 
 pub use days::{add_days, day_number};
 pub use read::{read_date, read_date_time};
-
-#[cfg(test)]
-mod tests;
