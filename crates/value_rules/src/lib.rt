@@ -11,6 +11,3 @@ pub use operand::{
     optional_number, optional_string, string_of,
 };
 pub use results::{item_of, told};
-
-#[cfg(test)]
-mod tests;
