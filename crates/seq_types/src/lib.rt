@@ -9,6 +9,3 @@ mod types;
 pub use matching::matches;
 pub use names::find_type;
 pub use types::{ItemType, SeqType, Times};
-
-#[cfg(test)]
-mod tests;
