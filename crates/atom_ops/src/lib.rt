@@ -16,6 +16,3 @@ pub use casts::cast;
 pub use comparison::{Cmp, general_cmp, value_cmp};
 pub use ranges::range;
 pub use texts::concat_text;
-
-#[cfg(test)]
-mod tests;

@@ -1,5 +1,0 @@
-mod arithmetic;
-mod casts;
-mod comparisons;
-mod operands;
-mod others;
