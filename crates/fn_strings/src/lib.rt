@@ -14,6 +14,3 @@ pub use pieces::{normalize_space, tokenize};
 pub use positions::{string_length, string_to_codepoints, substring, substring_3};
 pub use searches::{contains, ends_with, starts_with, substring_after, substring_before};
 pub use translation::translate;
-
-#[cfg(test)]
-mod tests;
