@@ -14,6 +14,3 @@ mod sameness;
 pub use counts::{boolean, count, empty, exactly_one, exists, one_or_more, zero_or_one};
 pub use parts::{head, insert_before, remove, reverse, subsequence, subsequence_3, tail};
 pub use sameness::{deep_equal, distinct_values, index_of};
-
-#[cfg(test)]
-mod tests;

@@ -1,4 +1,0 @@
-mod cells;
-mod counts;
-mod parts;
-mod sameness;
