@@ -16,6 +16,3 @@ pub use contents::{members, size, values};
 pub use gathering::accumulate;
 pub use key_sets::keys;
 pub use nesting::{descendant_arrays, descendant_objects, flatten};
-
-#[cfg(test)]
-mod tests;

@@ -1,4 +1,0 @@
-mod cells;
-mod contents;
-mod keys;
-mod nesting;
