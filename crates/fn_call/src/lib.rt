@@ -8,6 +8,3 @@ mod item_texts;
 mod results;
 
 pub use calls::call;
-
-#[cfg(test)]
-mod tests;

@@ -1,3 +1,0 @@
-mod dated;
-mod rows;
-mod values;
