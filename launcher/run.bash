@@ -1,76 +1,133 @@
-# Runs the program, which $program names.
+# Runs the program, which $program names: in the place of the launcher where nothing is to be done
+# behind it, and else as its child.
 
-# The name of the query's file among the words of a command: the first that belongs to no option.
-print_query_name() {
-  shift
-  while [ $# -gt 0 ]; do
-    case $1 in
-      --) printf '%s' "${2-}" && return ;;
-      --workers | --partition | --mode) shift ;;
+# Sets $name to the query's file among the words of a command, and $name_at to its place there: the
+# first that belongs to no option.
+find_query_name() {
+  local at=1
+  name= name_at=
+  while [ "$at" -lt ${#words[@]} ]; do
+    case ${words[at]} in
+      --) at=$((at + 1)) && break ;;
+      --workers | --partition | --mode) at=$((at + 1)) ;;
       -*) ;;
-      *) printf '%s' "$1" && return ;;
+      *) break ;;
     esac
-    shift || return
+    at=$((at + 1))
   done
+  [ "$at" -lt ${#words[@]} ] && name=${words[at]} name_at=$at
 }
 
-# Runs the program, and explains an error that has a place.
-run_at_terminal() {
-  local told status file
-  exec 3>&1
-  told=$("$program" "$@" 2>&1 >&3 3>&-)
+# Ends the program with the launcher, where a signal ends that.
+stop_with() {
+  kill -TERM "$child" 2> /dev/null
+  wait "$child"
+  echo 2> /dev/null >&7
+  [ -z "$room" ] || rm -rf -- "$room"
+  trap - "$1"
+  kill -s "$1" "$BASHPID"
+}
+
+# Runs the program as a child, with the text of its errors in $told, and returns its status. Its
+# output goes through the filter, if there is one. Where the launcher is killed outright, the end of
+# the pipe `leash` tells so to a process that ends the program then.
+run_child() {
+  local status filter= filtered=0
+  exec 3>&1 4<> <(:) 5<&0
+  if [ -n "$is_raw" ]; then
+    exec 6> >(LC_ALL=C exec awk -f "$parts/text.awk" -f "$parts/raw.awk" >&3 4>&- 5<&-)
+    filter=$!
+  else
+    exec 6>&1
+  fi
+  # It reads the query from 9, if that is open, and an input from its standard input.
+  "$program" "${words[@]}" <&5 >&6 2>&4 3>&- 4>&- 5<&- 6>&- &
+  child=$!
+  exec 6>&-
+  trap 'stop_with HUP' HUP
+  trap 'stop_with INT' INT
+  trap 'stop_with QUIT' QUIT
+  trap 'stop_with TERM' TERM
+  exec 7> >({ read -r || kill -TERM "$child"; } > /dev/null 2>&1 3>&- 4>&- 5<&-)
+  wait "$child"
   status=$?
-  exec 3>&-
+  echo >&7
+  exec 7>&-
+  if [ -n "$filter" ]; then
+    wait "$filter"
+    filtered=$?
+  fi
+  trap - HUP INT QUIT TERM
+  printf '\0' >&4
+  IFS= read -r -d '' told <&4
+  told=${told%$'\n'}
+  if [ "$status" -eq 0 ] && [ "$filtered" -ne 0 ] && [ "$filtered" -ne 141 ]; then
+    told='write fault' status=5
+  fi
+  # Whoever reads a pipe may have enough of it.
+  if [ "$status" -eq 5 ] && [ -p /dev/fd/3 ] && [ "$told" = 'write fault' ]; then
+    told=
+  fi
+  exec 3>&- 4>&- 5<&-
+  return "$status"
+}
+
+# Takes $front out of a place on the first line.
+correct_place() {
+  if [[ $told =~ ^((raised|refused)\ [A-Z0-9]+\ at\ 1:)([0-9]+)(.*)$ ]] && [ "${BASH_REMATCH[3]}" -gt "$shift_by" ]; then
+    told=${BASH_REMATCH[1]}$((BASH_REMATCH[3] - shift_by))${BASH_REMATCH[4]}
+  fi
+}
+
+# Prints the text of the query, for what is said of it. What came through a pipe is not there any more.
+print_query() {
+  if [ -n "$has_text" ]; then
+    printf '%s' "$text"
+  elif [ -f "$name" ]; then
+    cat -- "$name"
+  else
+    return 1
+  fi
+}
+
+# Runs the program with the words that were read.
+run_program() {
+  local status told child
+  if [ ! -t 2 ] && [ ! -p /dev/stdout ] && [ -z "$is_raw$room$front" ]; then
+    exec "$program" "${words[@]}"
+  fi
+  run_child
+  status=$?
+  correct_place
   [ -z "$told" ] || printf '%s\n' "$told" >&2
-  if [[ $told =~ ^(raised|refused)\ ([A-Z0-9]+)\ at\ ([0-9]+):([0-9]+) ]]; then
-    file=$(print_query_name "$@")
-    {
-      # What came through a pipe is not there to be shown.
-      [ ! -f "$file" ] || point_at "$file" "${BASH_REMATCH[3]}" "${BASH_REMATCH[4]}"
-      printf '%s: %s\n' "${BASH_REMATCH[2]}" "$(print_cause "${BASH_REMATCH[2]}")"
-    } >&2
+  if [ -t 2 ] && [[ $told =~ ^(raised|refused)\ ([A-Z0-9]+)\ at\ ([0-9]+):([0-9]+) ]]; then
+    with errors
+    explain "${BASH_REMATCH[2]}" "${BASH_REMATCH[3]}" "${BASH_REMATCH[4]}" >&2
   fi
   return "$status"
 }
 
-run_program() {
-  if [ -t 2 ]; then
-    with errors
-    run_at_terminal "$@"
-  else
-    "$program" "$@"
-  fi
-}
-
-# Runs a query that is given as a text.
-run_text() {
-  local text
-  if [ $# -eq 0 ]; then
-    printf "usage: rumble -e 'TEXT' [WORDS]\n" >&2
-    return 3
-  fi
-  text=$1
-  shift
-  make_room || return 70
-  printf '%s' "$text" > "$room/query.jq" || return 70
-  run_program run "$room/query.jq" "$@"
-}
-
 # Runs the words of the command line.
 run_words() {
-  # A query that keeps its items takes much memory in small blocks: with large pages the system gives
-  # it in fewer steps. A line's blocks are given back before the next line asks for as many of the
-  # same sizes: a hundred of each stay at hand, where seven do else.
-  export GLIBC_TUNABLES=${GLIBC_TUNABLES-glibc.malloc.hugetlb=1:glibc.malloc.tcache_count=100}
-  if [ "${1-}" = -e ]; then
-    shift
-    run_text "$@"
-  elif [ -t 2 ]; then
-    with errors
-    run_at_terminal "$@"
-  elif [ -n "$room" ]; then
-    "$program" "$@"
+  local has_text text is_raw files lets words front shift_by name name_at
+  with words query
+  read_words "$@" || return
+  if [ -n "$has_text" ]; then
+    take_input && make_front || return
+    words=(run /dev/fd/9 "${words[@]}")
+    exec 9< <(printf '%s' "$front$text")
   else
-    exec "$program" "$@"
+    make_front || return
+    find_query_name
+    if [ -n "$front" ] && [ "${words[0]-}" = trial ]; then
+      say "trial runs a query of its own, which takes no values"
+      return 3
+    fi
+    if [ -n "$front" ] && [ -r "$name" ] && [ ! -d "$name" ]; then
+      exec 9< <(print_with_front "$name")
+      words[name_at]=/dev/fd/9
+    fi
   fi
+  check_words "${words[@]}"
+  run_program
 }

@@ -38,3 +38,5 @@ PJST0001: this form of the language is left out here' \
       "$(ERROR="raised $code at 1:1" at_terminal "$rumble" run u.jq | grep -c "^$code: .")"
   done < <(sed -n 's/^ *Code::\([A-Z0-9]*\) => .*/\1/p' "$repository/crates/item_tree/src/code.rt")
 }
+
+[ -z "$has_terminal" ] || test_errors

@@ -35,34 +35,34 @@ test_first_run() {
   make_rt
   local path=$PATH
   expect "a checkout without rt" 'rumble: no program was made from the sources as they stand, and rt, which builds it, is not on the path
-status 70' "$(PATH=/usr/bin:/bin checkout/rumble run 2>&1; echo "status $?")"
+status 70' "$(PATH=/usr/bin:/bin checkout/rumble run q 2>&1; echo "status $?")"
   PATH=$work/bin:$PATH
-  expect "a first run that fails" "status 70" "$(FAILS=1 checkout/rumble run 2> told; echo "status $?")"
+  expect "a first run that fails" "status 70" "$(FAILS=1 checkout/rumble run q 2> told; echo "status $?")"
   expect "what a failed run tells" "1" "$(grep -c 'the program was not built' told)"
   : > calls
-  expect "a first run" $'<run>\ninput\nstatus 0' \
-    "$(echo input | READS=1 checkout/rumble run 2> told; echo "status $?")"
+  expect "a first run" $'<run>\n<q>\ninput\nstatus 0' \
+    "$(echo input | READS=1 checkout/rumble run q 2> told; echo "status $?")"
   expect "a line a crate" $'rumble: crate 1 of 2, low, after\nrumble: crate 2 of 2, rumble_main, after' \
     "$(sed -n 's/\(: crate .* after\) [0-9]*:[0-9][0-9]$/\1/p' told)"
   expect "the log's name" "1" "$(grep -c "The log is $work/checkout/out/build.log" told)"
   expect "what the first run calls" $'rt all check\nrt run\nrt version' "$(sed 's/ --jobs [0-9]*$//' calls)"
   : > calls
-  expect "a later run" $'<run>' "$(checkout/rumble run 2>&1)"
+  expect "a later run" $'<run>\n<q>' "$(checkout/rumble run q 2>&1)"
   touch checkout/crates/low/src/lib.rt
-  expect "a run after a source was written as it was" $'<run>' "$(checkout/rumble run 2>&1)"
+  expect "a run after a source was written as it was" $'<run>\n<q>' "$(checkout/rumble run q 2>&1)"
   echo >> checkout/crates/unused/src/lib.rt
-  expect "a run after a change of another crate" $'<run>' "$(checkout/rumble run 2>&1)"
+  expect "a run after a change of another crate" $'<run>\n<q>' "$(checkout/rumble run q 2>&1)"
   expect "what later runs call" "" "$(cat calls)"
   echo '-- more' >> checkout/crates/low/specs/Low.antt
   expect "a run after a change" $'2 crates\n<run>' \
-    "$(checkout/rumble run 2>&1 | grep -o '2 crates\|<run>')"
+    "$(checkout/rumble run q 2>&1 | grep -o '2 crates\|<run>')"
   echo 'fn more() {}' > checkout/crates/low/src/more.rt
   touch -d '1 year ago' checkout/crates/low/src/more.rt
   expect "a run with one more source, an old one" $'2 crates\n<run>' \
-    "$(checkout/rumble run 2>&1 | grep -o '2 crates\|<run>')"
+    "$(checkout/rumble run q 2>&1 | grep -o '2 crates\|<run>')"
   echo 'exit 0' >> checkout/out/built/rumble_main
   expect "a run with another program in the place of the built one" $'2 crates\n<run>' \
-    "$(checkout/rumble run 2>&1 | grep -o '2 crates\|<run>')"
+    "$(checkout/rumble run q 2>&1 | grep -o '2 crates\|<run>')"
   expect "a version in a checkout" "rumble 0.1
 proved with kit of the test
 $work/checkout/out/built/rumble_main, built from this checkout" "$(checkout/rumble --version)"
@@ -106,13 +106,13 @@ status 0" "$(copies/other/tools/release --check; echo "status $?")"
   PATH=/usr/bin:/bin
   cp -r fresh copies/plain
   expect "a fresh checkout" $'<run>\n<query 1>' "$(copies/plain/rumble -e 1 2>&1)"
-  expect "a fresh checkout, once more" $'<run>' "$(copies/plain/rumble run 2>&1)"
+  expect "a fresh checkout, once more" $'<run>\n<q>' "$(copies/plain/rumble run q 2>&1)"
   expect "a version of a release" "rumble 0.1
 proved with kit of the test
 $work/copies/plain/out/release/rumble_main, unpacked from release/" "$(copies/plain/rumble --version)"
   expect "the program of a release" "$work/copies/plain/out/release/rumble_main" "$(copies/plain/rumble --program)"
   echo 'exit 0' > copies/plain/out/release/rumble_main
-  expect "a release whose program was changed when unpacked" $'<run>' "$(copies/plain/rumble run 2>&1)"
+  expect "a release whose program was changed when unpacked" $'<run>\n<q>' "$(copies/plain/rumble run q 2>&1)"
   (cd copies/plain && make install PREFIX="$work/prefix" > /dev/null)
   expect "what is installed" "rumble 0.1
 proved with kit of the test
@@ -121,15 +121,17 @@ $work/prefix/libexec/rumble/rumble_main, as installed
 <query 1>" "$(prefix/bin/rumble --version; prefix/bin/rumble -e 1)"
   expect "what stays when it is taken away" "" "$(make -C copies/plain uninstall PREFIX="$work/prefix" > /dev/null; find prefix -type f)"
   cp -r fresh copies/pair
-  expect "two first runs at once" $'<run>\n<run>' "$(
-    copies/pair/rumble run 2>&1 &
-    copies/pair/rumble run 2>&1
-    wait
+  expect "two first runs at once" $'<q>\n<q>\n<run>\n<run>' "$(
+    {
+      copies/pair/rumble run q 2>&1 &
+      copies/pair/rumble run q 2>&1
+      wait
+    } | sort
   )"
   cp -r fresh copies/shut && : > copies/shut/out
   expect "a checkout that can't be written to" $'<run>\n<query 1>' "$(copies/shut/rumble -e 1 2>&1)"
   mkdir rooms
-  TMPDIR=$work/rooms copies/shut/rumble run > /dev/null
+  TMPDIR=$work/rooms copies/shut/rumble run q > /dev/null
   expect "what that leaves" "" "$(ls rooms)"
   expect "a checkout that can't be written to, without a release" \
     "rumble: no program was made from the sources as they stand, and none can be built, since $work/copies/shut/out can't be written to
@@ -138,17 +140,18 @@ status 70" "$(rm -r copies/shut/release; PATH=$work/bin:$PATH copies/shut/rumble
   local none='rumble: no program was made from the sources as they stand, and rt, which builds it, is not on the path'
   local damaged='rumble: the program in release/ is damaged, and is not run'
   cp -r fresh copies/changed && echo >> copies/changed/crates/low/src/lib.rt
-  expect "a release whose sources have changed" "$none" "$(copies/changed/rumble run 2>&1)"
+  expect "a release whose sources have changed" "$none" "$(copies/changed/rumble run q 2>&1)"
   cp -r fresh copies/damaged
   printf x | dd of=copies/damaged/release/rumble_main.gz bs=1 seek=60 conv=notrunc 2> /dev/null
-  expect "a damaged release" "$damaged"$'\n'"$none" "$(copies/damaged/rumble run 2>&1)"
+  expect "a damaged release" "$damaged"$'\n'"$none" "$(copies/damaged/rumble run q 2>&1)"
   expect "what a damaged release leaves" "" "$(ls copies/damaged/out/release)"
   expect "a damaged release, where it can be built" "$damaged
-<run>" "$(PATH=$work/bin:$PATH copies/damaged/rumble run 2>&1 | grep -v '^rumble: [^t]\|^rumble: the program is proved')"
+<run>
+<q>" "$(PATH=$work/bin:$PATH copies/damaged/rumble run q 2>&1 | grep -v '^rumble: [^t]\|^rumble: the program is proved')"
   expect "a check of a damaged release" "status 1" \
     "$(copies/damaged/tools/release --check > /dev/null; echo "status $?")"
   cp -r fresh copies/cut && : > copies/cut/release/rumble_main.gz
-  expect "an empty release" "$damaged"$'\n'"$none" "$(copies/cut/rumble run 2>&1)"
+  expect "an empty release" "$damaged"$'\n'"$none" "$(copies/cut/rumble run q 2>&1)"
 
   cp -r fresh copies/own
   PATH=$work/bin:/usr/bin:/bin
@@ -165,3 +168,6 @@ status 70" "$(rm -r copies/shut/release; PATH=$work/bin:$PATH copies/shut/rumble
     "$(copies/own/rumble --program)"
   PATH=$path
 }
+
+test_first_run
+test_release
