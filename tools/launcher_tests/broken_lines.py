@@ -1,6 +1,6 @@
 #!/usr/bin/env python3
-"""Writes a file of 100,000 lines of which thirty are faulty in thirty ways, and what is to be said of
-them: broken_lines.py FILE EXPECTED GOOD. Among the lines that are well are odd ones of all kinds."""
+"""Writes a file of lines of which thirty are faulty in thirty ways, and what is to be said of them:
+broken_lines.py LINES FILE EXPECTED GOOD. Among the lines that are well are odd ones of all kinds."""
 import sys
 
 NO_JSON = "the text is no JSON"
@@ -55,22 +55,24 @@ BLANK = [b'', b' ', b'\t', b'\r', b' \t \r']
 
 
 def main():
+    count, name = int(sys.argv[1]), sys.argv[2]
+    step = count // len(FAULTY)
     lines, told, good = [], [], []
-    for number in range(1, 100001):
-        if number % 3331 == 17 and len(told) < len(FAULTY):
+    for number in range(1, count + 1):
+        if number % step == 5 and len(told) < len(FAULTY):
             line, why, shown = FAULTY[len(told)]
-            told.append("%s:%d: %s: %s" % (sys.argv[1], number, why, shown))
+            told.append("%s:%d: %s: %s" % (name, number, why, shown))
         else:
             kind = number * 7919 % 101
             line = BLANK[kind] if kind < len(BLANK) else WELL[kind % len(WELL)].replace(b'%d', b'%d' % number)
             good.append(line)
         lines.append(line)
     assert len(told) == len(FAULTY)
-    with open(sys.argv[1], "wb") as out:
+    with open(name, "wb") as out:
         out.write(b"\xef\xbb\xbf" + b"\n".join(lines))
-    with open(sys.argv[2], "w", encoding="utf-8") as out:
+    with open(sys.argv[3], "w", encoding="utf-8") as out:
         out.write("".join(line + "\n" for line in told))
-    with open(sys.argv[3], "wb") as out:
+    with open(sys.argv[4], "wb") as out:
         out.write(b"".join(line + b"\n" for line in good))
 
 
