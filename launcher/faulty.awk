@@ -7,6 +7,6 @@
 number == 1 && first { sub(/^\357\273\277/, "") }
 good { if (!(number in code_at)) print; next }
 number in code_at {
-  printf "%s:%d: %s: %s\n", ENVIRON["FILE_NAME"], base + number, ENVIRON[code_at[number]], shown(substr($0, 1, 480), 120)
+  printf "%s:%d: %s: %s\n", shown(ENVIRON["FILE_NAME"], 4096), base + number, ENVIRON[code_at[number]], shown(substr($0, 1, 480), 120)
   if (alone) exit
 }

@@ -5,18 +5,25 @@ print_help() {
 usage: rumble run QUERY            prints the value of the query in the file QUERY
        rumble check QUERY          says whether that query is accepted, and runs nothing
        rumble trial NUMBER LINES   prints what a fixed query gives of lines made from a number
-       rumble -e 'TEXT' [WORDS]    as run, of the query TEXT; WORDS are further words of run
-       rumble --build              proves and builds the program, and runs nothing
+       rumble -e 'TEXT' [FILE]     as run, of the query TEXT; FILE is its standard input
+       rumble lines FILE..         names the first line of each file that is no JSON; with --all all of
+                                   them; with --good it prints the other lines
+       rumble --build              in a checkout: proves and builds the program, and runs nothing
        rumble --program            prints the path of the program that runs
        rumble --help | --version
 
+With run and -e:
+  -r, --raw                a string is printed as its text, without quotes
+  --let NAME=TEXT          $NAME is this string in the query
+  --let-json NAME=VALUE    $NAME is the item of this JSON text
+  --stats                  tells on the standard error how many items and bytes were printed
+
 A query is JSONiq. json-lines("NAME") reads a file of JSON Lines, or the standard input where the
-name is /dev/stdin. The exit status is 0 where the query ran to its end. With --stats, run tells on
-the standard error how many items and bytes it printed.
+name is /dev/stdin. The exit status is 0 where the query ran to its end.
 
 Examples:
-  rumble -e 'json-lines("orders.jsonl")'
-  zcat log.gz | rumble -e 'json-lines("/dev/stdin")'
+  rumble -e 'json-lines("orders.jsonl")[$$.total gt 100].id'
+  zcat log.gz | rumble -r --let user=bo -e 'json-lines("/dev/stdin")[$$.user eq $user].text'
 HELP
 }
 

@@ -11,13 +11,14 @@ slice() { tail -c +"$(($1 + 1))" -- "$file" | head -c "$(($2 - $1))"; }
 # Whether json-lines takes the lines from $1 up to $2; sets $code where it does not. An empty line goes
 # before them, since a byte order mark is passed over at the start of a file alone.
 reads_well() {
-  local told
+  local told status
   told=$({ [ "$1" -eq 0 ] || echo; slice "$1" "$2"; } \
     | "$program" run /dev/fd/9 9<<< 'json-lines("/dev/stdin")' 2>&1 > /dev/null)
-  [ -n "$told" ] || return 0
+  status=$?
+  [ "$status" -ne 0 ] || return 0
   if [[ ! $told =~ ^raised\ (JNDY0021|PJDY0004|PJDY0002)\  ]]; then
     say "$file: $told"
-    exit 6
+    exit "$status"
   fi
   code=${BASH_REMATCH[1]}
   return 1
@@ -58,15 +59,15 @@ print_told() {
     -v alone="$([ "$want" != first ] || echo 1)" -f "$parts/text.awk" -f "$parts/faulty.awk"
 }
 
-# Sets $told to the numbers and codes of the faulty lines from $1 up to $2. All control characters are
-# alike to JSON, so those that awks stumble over become others.
+# Sets $told to the numbers and codes of the faulty lines from $1 up to $2, if it finds any. All control
+# characters are alike to JSON, so those that awks stumble over become others.
 read_each() {
   told=$(slice "$1" "$2" | tr '\000-\010\013\014\016-\037' '[\001*]' \
     | LC_ALL=C awk -v first="$(($1 == 0))" -f "$parts/text.awk" -f "$parts/quote.awk" \
     | "$program" run /dev/fd/9 9<<< '
         for $text at $line in json-lines("/dev/stdin")
         where $text instance of string
-        return try { parse-json($text)[false] } catch * { $line || " " || $err:code }' | tr -d '"')
+        return try { parse-json($text)[false] } catch * { $line || " " || $err:code }' 2> /dev/null | tr -d '"')
   [ -n "$told" ]
 }
 

@@ -33,9 +33,12 @@ stop_with() {
 # the pipe `leash` tells so to a process that ends the program then.
 run_child() {
   local status filter= filtered=0
+  # Closed streams stay what they are to the program: nothing to read, and no room to write.
+  { : >&1; } 2> /dev/null || exec > /dev/full
+  { : <&0; } 2> /dev/null || exec < /dev/null
   exec 3>&1 4<> <(:) 5<&0
   if [ -n "$is_raw" ]; then
-    exec 6> >(LC_ALL=C exec awk -f "$parts/text.awk" -f "$parts/raw.awk" >&3 4>&- 5<&-)
+    exec 6> >(export LC_ALL=C && exec awk -f "$parts/text.awk" -f "$parts/raw.awk" >&3 4>&- 5<&-)
     filter=$!
   else
     exec 6>&1
