@@ -121,7 +121,7 @@ declare function cell($call, $x) {
   try { let $value := called($call, $x) return "." } catch * { $err:code }
 };
 
-declare function padded($text, $width) { substring($text || "                       ", 1, $width) };
+declare function padded($text, $width) { substring($text || "                         ", 1, $width) };
 
 declare function line($call, $cells) {
   padded($call, 25) || string-join($cells ! padded($$, 9))

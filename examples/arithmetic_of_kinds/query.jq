@@ -30,7 +30,7 @@ declare function cell($operator, $a, $b) {
   } catch * { $err:code }
 };
 
-declare function padded($text, $width) { substring($text || "                       ", 1, $width) };
+declare function padded($text, $width) { substring($text || "                         ", 1, $width) };
 
 declare function line($operator, $left, $cells) {
   padded($operator, 5) || padded($left, 6) || string-join($cells ! padded($$, 11))

@@ -74,7 +74,7 @@ declare function cell($form, $type, $a) {
   try { result($form, $type, $a) } catch * { $err:code }
 };
 
-declare function padded($text, $width) { substring($text || "                       ", 1, $width) };
+declare function padded($text, $width) { substring($text || "                         ", 1, $width) };
 
 declare function line($form, $left, $cells) {
   padded($form, 11) || padded($left, 6) || string-join(for $cell at $i in $cells return padded($cell, $widths[$i]))

@@ -34,7 +34,7 @@ declare function together($a, $b) {
     default return string-join(distinct-values($cells), " ")
 };
 
-declare function padded($text, $width) { substring($text || "                       ", 1, $width) };
+declare function padded($text, $width) { substring($text || "                         ", 1, $width) };
 
 declare function line($words, $left, $cells) {
   padded($words, 7) || padded($left, 6) || string-join($cells ! padded($$, 9))
