@@ -1,0 +1,4 @@
+pub mod Places
+pub mod Enough
+pub mod Faults
+pub mod Laws
