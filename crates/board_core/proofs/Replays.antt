@@ -2,8 +2,7 @@
 use Rattle.std.proofs.Common.{◌≡◌, ◌<◌, ◌+◌, ◌==◌, ◌&&◌, not, nat_lt, ℕ, Bool, true, false, if◌then◌else◌, List, [], ◌∷◌, ◌++◌, Option, None, Some, refl, ap, ◌∙◌, sym, arith}
 use Rattle.std.proofs.lemmas.Grind.{common_steps}
 use Rattle.std.proofs.lemmas.Bool.Decides.{nat_tests}
-use Rattle.board_core.specs.declared.event.CoreEvent.TheVariants.{Took, Told, Stopped}
-use Rattle.fault_merge.specs.declared.at.At.{At}
+use Rattle.board_core.specs.declared.event.CoreEvent.TheVariants.{Took, Told}
 use Rattle.board_core.specs.declared.state.CoreState.{CoreState}
 use Rattle.board_core.specs.declared.event.CoreEvent.{CoreEvent}
 use Rattle.fault_merge.specs.Places.{least_of}

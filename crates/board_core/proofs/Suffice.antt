@@ -1,6 +1,5 @@
 -- Limits are enough: a limit is the least clause told, and only pieces before the next one are told.
-use Rattle.std.proofs.Common.{◌≡◌, ◌<◌, ◌≤◌, ◌+◌, ◌==◌, ◌⊎◌, nat_lt, nat_le, ℕ, Bool, true, false, List, [], ◌∷◌, Option, None, Some, if◌then◌else◌, IfSome, refl, ap, sym, ◌∙◌, subst, inl, inr, arith}
-use Rattle.std.proofs.lemmas.Grind.{common_steps}
+use Rattle.std.proofs.Common.{◌≡◌, ◌<◌, ◌≤◌, ◌+◌, ℕ, Bool, true, false, List, [], ◌∷◌, Option, None, Some, if◌then◌else◌, IfSome, refl, ap, sym, ◌∙◌, subst, inl, inr, arith}
 use Rattle.std.proofs.lemmas.Bool.Decides.{nat_tests}
 use Rattle.fault_merge.specs.declared.at.At.{At}
 use Rattle.board_core.specs.declared.state.CoreState.{CoreState}

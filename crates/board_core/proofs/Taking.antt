@@ -1,6 +1,5 @@
 -- The pieces that a schedule takes.
-use Rattle.std.proofs.Common.{◌≡◌, ◌<◌, ◌≤◌, ◌+◌, ℕ, zero, suc, true, List, [], ◌∷◌, Option, None, Some, refl, ap, sym, ◌∙◌, subst, arith}
-use Rattle.fault_merge.specs.declared.at.At.{At}
+use Rattle.std.proofs.Common.{◌≡◌, ◌+◌, ℕ, suc, true, List, [], ◌∷◌, Option, Some, refl, ap, ◌∙◌, subst, arith}
 use Rattle.board_core.specs.declared.state.CoreState.{CoreState}
 use Rattle.board_core.specs.declared.event.CoreEvent.{CoreEvent}
 use Rattle.board_core.specs.declared.event.CoreEvent.TheVariants.{Took, Told, Stopped}

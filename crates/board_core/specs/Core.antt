@@ -1,5 +1,5 @@
 -- The core: which events may come next, and what a list of them leaves.
-use Rattle.std.specs.Prelude.{◌≡◌, ◌+◌, ◌==◌, ◌&&◌, not, nat_lt, ℕ, true, false, List, [], ◌∷◌, Option, None, Some, if◌then◌else◌}
+use Rattle.std.specs.Prelude.{◌+◌, ◌==◌, ◌&&◌, not, nat_lt, ℕ, true, false, List, [], ◌∷◌, Option, None, Some, if◌then◌else◌}
 use Rattle.fault_merge.specs.declared.at.At.{At}
 use Rattle.fault_merge.specs.Places.{least_of}
 use Rattle.board_core.specs.declared.state.CoreState.{CoreState}

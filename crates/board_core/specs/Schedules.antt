@@ -1,5 +1,5 @@
 -- What a list of events says of pieces and their faults.
-use Rattle.std.specs.Prelude.{◌≡◌, ◌<◌, ◌+◌, ◌==◌, ℕ, zero, suc, Bool, true, false, List, [], ◌∷◌, Option, None, Some, if◌then◌else◌}
+use Rattle.std.specs.Prelude.{◌≡◌, ◌<◌, ◌+◌, ◌==◌, ℕ, zero, suc, Bool, true, false, List, [], ◌∷◌, Option, Some, if◌then◌else◌}
 use Rattle.fault_merge.specs.declared.at.At.{At}
 use Rattle.fault_merge.specs.Enough.{enough_of}
 use Rattle.board_core.specs.declared.event.CoreEvent.{CoreEvent}

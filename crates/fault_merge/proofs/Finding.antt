@@ -1,6 +1,5 @@
 -- The least fault of a list of outputs is found from its front.
-use Rattle.std.proofs.Common.{◌≡◌, ◌<◌, ◌≤◌, ◌+◌, ◌⊎◌, ℕ, zero, suc, Bool, true, false, List, [], ◌∷◌, Option, None, Some, IfSome, slice_get, if◌then◌else◌, refl, ap, sym, ◌∙◌, subst, inl, inr, arith}
-use Rattle.std.specs.Option.{option_and_then}
+use Rattle.std.proofs.Common.{◌≡◌, ◌+◌, ◌⊎◌, ℕ, zero, suc, true, false, List, [], ◌∷◌, Option, None, Some, IfSome, if◌then◌else◌, refl, ap, sym, ◌∙◌, subst, inl, inr, arith}
 use Rattle.fault_merge.specs.declared.at.At.{At}
 use Rattle.fault_merge.specs.declared.done.Done.{Done}
 use Rattle.fault_merge.specs.Places.{NotAfter, is_before, least_of}
@@ -127,11 +126,13 @@ module _ {O : Type 0} (tells : O → Option ℕ) where
 
   found_is_least : (ds : List (Done O)) (r : Option At) → Found None 0 (fault_at tells ds) r → IsLeastFault (fault_at tells ds) r
   found_is_least ds None h = h.1
-  found_is_least ds (Some a) h =
-      (elim h.is as (λ _. fault_at tells ds a.piece ≡ Some a.clause) [
-        | inl e ↦ absurd cc
-        | inr (k, e, i) ↦ let same : k ≡ a.piece = omega (arith, e) in subst (λ (p : ℕ). fault_at tells ds p ≡ Some a.clause) same i
-      ], λ p c e. let same : 0 + p ≡ p = omega arith in subst (λ (q : ℕ). NotAfter a (record { clause = c; piece = q })) same (h.after p c e))
+  found_is_least ds (Some a) h = (
+    elim h.is as (λ _. fault_at tells ds a.piece ≡ Some a.clause) [
+      | inl e ↦ absurd cc
+      | inr (k, e, i) ↦ let same : k ≡ a.piece = omega (arith, e) in subst (λ (p : ℕ). fault_at tells ds p ≡ Some a.clause) same i
+    ],
+    λ p c e. let same : 0 + p ≡ p = omega arith in subst (λ (q : ℕ). NotAfter a (record { clause = c; piece = q })) same (h.after p c e),
+  )
 
 pub least_fault_stands_lem : (O : Type 0) → LeastFaultStands O
 least_fault_stands_lem O tells done = found_is_least tells done (least_fault tells None 0 done) (found_in tells None 0 done)

@@ -1,9 +1,8 @@
 -- The lesser of two places comes after neither.
-use Rattle.std.proofs.Common.{◌≡◌, ◌<◌, ◌≤◌, ◌==◌, ◌⊎◌, ℕ, Bool, true, false, Option, None, Some, nat_lt, if◌then◌else◌, IfSome, refl, ap, sym, ◌∙◌, subst, inl, inr, arith}
+use Rattle.std.proofs.Common.{◌≡◌, ◌<◌, ◌≤◌, ◌==◌, ℕ, Bool, true, false, Option, None, Some, nat_lt, if◌then◌else◌, IfSome, refl, ap, ◌∙◌, inl, inr, arith}
 use Rattle.std.proofs.lemmas.Bool.Decides.{nat_tests}
 use Rattle.fault_merge.specs.declared.at.At.{At}
 use Rattle.fault_merge.specs.Places.{NotAfter, is_before, least_of}
-use Rattle.fault_merge.specs.Faults.{IsLeastFault}
 use Rattle.fault_merge.specs.Laws.{LeastFaultIsOne}
 
 pub not_after_self : (a : At) → NotAfter a a

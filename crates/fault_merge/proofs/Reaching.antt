@@ -1,9 +1,8 @@
 -- A limit that is enough lies above the clauses whose faults it must tell.
-use Rattle.std.proofs.Common.{◌≡◌, ◌<◌, ◌≤◌, ◌==◌, ◌⊎◌, ◌↔◌, ℕ, zero, suc, Bool, true, false, Option, None, Some, nat_lt, nat_le, if◌then◌else◌, refl, inl, inr, arith}
+use Rattle.std.proofs.Common.{◌≡◌, ◌<◌, ◌≤◌, ℕ, zero, suc, Bool, true, false, nat_lt, nat_le, if◌then◌else◌, refl, inl, inr, arith}
 use Rattle.std.proofs.lemmas.Bool.Decides.{nat_tests}
 use Rattle.fault_merge.specs.declared.at.At.{At}
 use Rattle.fault_merge.specs.Places.{NotAfter}
-use Rattle.fault_merge.specs.Enough.{enough_of}
 use Rattle.fault_merge.specs.Laws.{EnoughReaches}
 
 reached : (limit piece : ℕ) (a : At) (t : Bool) → nat_le piece a.piece ≡ t → (if t then nat_lt a.clause limit else nat_le a.clause limit) ≡ true
