@@ -30,7 +30,9 @@ stepped s (Took piece limit) =
     else None
 stepped s (Told clause piece) =
     if nat_lt piece s.next && nat_lt clause s.full
-    then Some (record s { least = Some (least_of s.least (record { clause = clause; piece = piece })) })
+    then Some (record s {
+      least = Some (least_of s.least (record { clause = clause; piece = piece }));
+    })
     else None
 stepped s Stopped = Some (record s { stopped = true })
 

@@ -1,5 +1,5 @@
-//! The core of the pool of workers: which pieces were taken at which limits, which faults were told,
-//! and which event may come next.
+//! The core of the pool of workers: which pieces were taken at which limits, which faults were
+//! told, and which event may come next.
 #![tactic(auto)]
 
 mod event;

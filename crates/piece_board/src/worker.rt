@@ -140,7 +140,8 @@ pub(crate) fn work_on<R: Threads + Wait + Sync, J: Job, G: Gate>(
     requires full { full ≡ J.full job.now }
     requires some { 0 < length slots.old.items }
     requires ready { All (IsReady (J.fits job.now)) slots.old.items }
-    ensures { WorkedAll (J.fits job.now) J.trouble (J.good job.now) slots.old.items slots.new.items }
+    ensures { WorkedAll (J.fits job.now) J.trouble (J.good job.now)
+        slots.old.items slots.new.items }
 {
     work_all(rt, job, total, full, board, gate, slots.as_mut_slice());
 }
