@@ -23,7 +23,7 @@ name is /dev/stdin. The exit status is 0 where the query ran to its end.
 
 Examples:
   rumble -e 'json-lines("orders.jsonl")[$$.total gt 100].id'
-  zcat log.gz | rumble -r --let user=bo -e 'json-lines("/dev/stdin")[$$.user eq $user].text'
+  zcat log.gz | rumble -e 'json-lines("/dev/stdin")[$$.user eq $user].text' -r --let user=bo
 HELP
 }
 

@@ -28,42 +28,57 @@ stop_with() {
   kill -s "$1" "$BASHPID"
 }
 
-# Runs the program as a child, with the text of its errors in $told, and returns its status. Its
-# output goes through the filter, if there is one. Where the launcher is killed outright, the end of
-# the pipe `leash` tells so to a process that ends the program then.
-run_child() {
-  local status filter= filtered=0
+# Opens what the program gets as a child: 3 is the standard output, 4 takes the text of its errors, 5 is
+# the standard input, and 6 leads to the output, through the filter if there is one.
+open_streams() {
   # Closed streams stay what they are to the program: nothing to read, and no room to write.
   { : >&1; } 2> /dev/null || exec > /dev/full
   { : <&0; } 2> /dev/null || exec < /dev/null
   exec 3>&1 4<> <(:) 5<&0
+  filter=
   if [ -n "$is_raw" ]; then
     exec 6> >(export LC_ALL=C && exec awk -f "$parts/text.awk" -f "$parts/raw.awk" >&3 4>&- 5<&-)
     filter=$!
   else
     exec 6>&1
   fi
-  # It reads the query from 9, if that is open, and an input from its standard input.
-  "$program" "${words[@]}" <&5 >&6 2>&4 3>&- 4>&- 5<&- 6>&- &
-  child=$!
-  exec 6>&-
-  trap 'stop_with HUP' HUP
-  trap 'stop_with INT' INT
-  trap 'stop_with QUIT' QUIT
-  trap 'stop_with TERM' TERM
+}
+
+# Waits for the end of the program, with which the launcher ends where a signal ends that. Where the
+# launcher is killed outright, the end of the pipe 7 tells so to a process that ends the program then.
+wait_for_child() {
+  local status signal
+  for signal in HUP INT QUIT TERM; do
+    # shellcheck disable=SC2064
+    trap "stop_with $signal" "$signal"
+  done
   exec 7> >({ read -r || kill -TERM "$child"; } > /dev/null 2>&1 3>&- 4>&- 5<&-)
   wait "$child"
   status=$?
   echo >&7
   exec 7>&-
+  trap - HUP INT QUIT TERM
+  return "$status"
+}
+
+# Runs the program as a child, with the text of its errors in $told, and returns its status. It reads
+# the query from 9, if that is open.
+run_child() {
+  local status filter filtered=0
+  open_streams
+  "$program" "${words[@]}" <&5 >&6 2>&4 3>&- 4>&- 5<&- 6>&- &
+  child=$!
+  exec 6>&-
+  wait_for_child
+  status=$?
   if [ -n "$filter" ]; then
     wait "$filter"
     filtered=$?
   fi
-  trap - HUP INT QUIT TERM
   printf '\0' >&4
   IFS= read -r -d '' told <&4
   told=${told%$'\n'}
+  # A filter that ends by SIGPIPE could not write since nobody reads; else there was no room.
   if [ "$status" -eq 0 ] && [ "$filtered" -ne 0 ] && [ "$filtered" -ne 141 ]; then
     told='write fault' status=5
   fi

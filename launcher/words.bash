@@ -7,28 +7,21 @@ read_words() {
   while [ $# -gt 0 ]; do
     case $1 in
       --)
-        if [ -n "$has_text" ]; then
-          shift
-          files+=("$@")
-        else
-          words+=("$@")
-        fi
+        [ -z "$has_text" ] || shift
+        take_words "$@"
         return
         ;;
       -r | --raw) is_raw=1 ;;
-      --let=* | --let-json=*) add_let "${1%%=*}" "${1#*=}" || return ;;
+      --let=* | --let-json=*) take_let "${1%%=*}" "${1#*=}" || return ;;
       --let | --let-json)
-        add_let "$1" "${2-}" || return
+        take_let "$1" "${2-}" || return
         shift
         ;;
       -e)
-        if [ -n "$has_text" ] || [ ${#words[@]} -gt 0 ] && [[ ${words[0]} != -* ]]; then
-          words+=("$1")
-        elif [ $# -eq 1 ]; then
-          printf "usage: rumble -e 'TEXT' [WORDS] [FILE]\n" >&2
-          return 3
+        if is_taken; then
+          words+=(-e)
         else
-          has_text=1 text=$2
+          take_text "${@:2:1}" || return
           shift
         fi
         ;;
@@ -37,20 +30,37 @@ read_words() {
         [ $# -eq 1 ] || shift
         ;;
       -*) words+=("$1") ;;
-      *)
-        if [ -n "$has_text" ]; then
-          files+=("$1")
-        else
-          words+=("$1")
-        fi
-        ;;
+      *) take_words "$1" ;;
     esac
     shift
   done
 }
 
+# Whether there is a query already, by -e or by one of the program's own words: another -e is then
+# refused with those.
+is_taken() {
+  [ -n "$has_text" ] || [[ ${words[0]--} != -* ]]
+}
+
+take_text() {
+  if [ $# -eq 0 ]; then
+    printf "usage: rumble -e 'TEXT' [WORDS] [FILE]\n" >&2
+    return 3
+  fi
+  has_text=1 text=$1
+}
+
+# Takes words that belong to no option.
+take_words() {
+  if [ -n "$has_text" ]; then
+    files+=("$@")
+  else
+    words+=("$@")
+  fi
+}
+
 # Takes NAME=VALUE, the value of an option --let or --let-json.
-add_let() {
+take_let() {
   if [[ $2 != ?*=* ]]; then
     say "$1: NAME=VALUE stands after it"
     return 3
@@ -60,47 +70,58 @@ add_let() {
 
 # Says what is wrong with the program's words, which it refuses then with its usage line.
 check_words() {
-  local verb=${1-} arguments=0 wanted=1 seen=' ' name value
+  local verb=${1-} arguments=0 wanted=1 seen=' '
   case $verb in
-    '' | run | check) ;;
+    '') return ;;
+    run | check) ;;
     trial) wanted=2 ;;
     explain) say "explain is not built yet" && return ;;
     *) say "$verb: no such word; rumble --help has all words" && return ;;
   esac
   shift
-  while [ $# -gt 0 ]; do
-    name=${1%%=*}
-    case $name in
-      --)
-        arguments=$((arguments + $# - 1))
-        break
-        ;;
-      --workers | --partition | --mode | --stats)
-        if ! is_option_of "$verb" "$name"; then
-          say "$name: no option of $verb" && return
-        elif [[ $seen == *" $name "* ]]; then
-          say "$name: it stands there twice" && return
-        fi
-        seen+="$name "
-        if [ "$name" != --stats ]; then
-          value=${1#*=}
-          [[ $1 == *=* ]] || { value=${2-} && [ $# -eq 1 ] || shift; }
-          check_value "$name" "$value" || return
-        elif [[ $1 == *=* ]]; then
-          say "$name: it takes no value" && return
-        fi
-        ;;
-      -?*) say "$1: no such option" && return ;;
-      *) arguments=$((arguments + 1)) ;;
-    esac
+  while [ $# -gt 0 ] && [ "$1" != -- ]; do
+    if [[ $1 == -?* ]]; then
+      check_option "$@" || return 0
+      case $1 in
+        --stats | *=*) ;;
+        *) [ $# -eq 1 ] || shift ;;
+      esac
+    else
+      arguments=$((arguments + 1))
+    fi
     shift
   done
-  if [ -n "$verb" ] && [ "$arguments" -ne "$wanted" ]; then
-    case $verb in
-      trial) say "trial takes two words, NUMBER and LINES" ;;
-      *) say "$verb takes one word, QUERY; a query names its inputs itself, as json-lines(\"FILE\")" ;;
-    esac
+  [ $# -eq 0 ] || arguments=$((arguments + $# - 1))
+  [ "$arguments" -ne "$wanted" ] || return 0
+  if [ "$verb" = trial ]; then
+    say "trial takes two words, NUMBER and LINES"
+  else
+    say "$verb takes one word, QUERY; a query names its inputs itself, as json-lines(\"FILE\")"
   fi
+}
+
+# Says what is wrong with the option $1, whose value may be the next word. $seen has the earlier ones.
+check_option() {
+  local name=${1%%=*}
+  case $name in
+    --workers | --partition | --mode | --stats) ;;
+    *) say "$1: no such option" && return 1 ;;
+  esac
+  if ! is_option_of "$verb" "$name"; then
+    say "$name: no option of $verb"
+    return 1
+  fi
+  if [[ $seen == *" $name "* ]]; then
+    say "$name: it stands there twice"
+    return 1
+  fi
+  seen+="$name "
+  case $1 in
+    --stats) ;;
+    --stats=*) say "$name: it takes no value" && return 1 ;;
+    *=*) check_value "$name" "${1#*=}" ;;
+    *) check_value "$name" "${2-}" ;;
+  esac
 }
 
 is_option_of() {
@@ -112,7 +133,7 @@ is_option_of() {
 
 # Says what the value of an option may be, where this one is not.
 check_value() {
-  local least=1 most
+  local most number=0
   case $1 in
     --mode)
       [ "$2" != auto ] && [ "$2" != local ] || return 0
@@ -122,9 +143,8 @@ check_value() {
     --workers) most=64 ;;
     --partition) most=1073741824 ;;
   esac
-  if [[ $2 =~ ^\+?0*([0-9]{1,10})$ ]] && [ "${BASH_REMATCH[1]}" -ge "$least" ] && [ "${BASH_REMATCH[1]}" -le "$most" ]; then
-    return 0
-  fi
-  say "$1 $2: $least to $most"
+  [[ $2 =~ ^\+?0*([0-9]{1,10})$ ]] && number=${BASH_REMATCH[1]}
+  [ "$number" -lt 1 ] || [ "$number" -gt "$most" ] || return 0
+  say "$1 $2: 1 to $most"
   return 1
 }
