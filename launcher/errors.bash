@@ -18,8 +18,9 @@ explain() {
     *) return 0 ;;
   esac
   with lines
-  while IFS= read -r input; do
+  while IFS= read -r input <&8; do
+    [ "$input" != /dev/stdin ] || input=${files[0]-/dev/stdin}
     [ ! -f "$input" ] || print_faulty first "$input"
-  done < <(printf '%s' "$text_there" | print_inputs "$2:$3" | awk '!($0 in seen) { seen[$0] = 1; print }')
+  done 8< <(printf '%s' "$text_there" | print_inputs "$2:$3" | awk '!($0 in seen) { seen[$0] = 1; print }')
   return 0
 }

@@ -56,29 +56,34 @@ print_sums() {
     | sort -z | xargs -0 sha256sum)
 }
 
-# Whether nothing among the sources has changed since $1 was written. A change is told by the time of
-# the change of status, which no tool sets back.
+# Whether nothing among the sources has changed since the time of the file $1, which is not one to come.
+# A change is told by the time of the change of status, which no tool sets back.
 is_later_than_sources() (
   [ -f "$1" ] && [ "$1" -ot /proc/self ] && cd "$top" || exit 1
   [ -z "$(find crates.txt crates/*/src crates/*/specs crates/*/proofs -cnewer "$1" -print -quit 2>&1)" ]
 )
 
 # The sum of the list of sums. It takes a tenth of a second, so it is kept while no source changes.
-# What is kept bears a time three seconds before the sums were taken: clocks of files may be coarse.
+# What is kept bears a time three seconds before the sums were taken, by the clock of that file
+# system, since such clocks may be coarse.
 print_sources_sum() {
-  local kept=$cache/sources began sum new
+  local kept=$cache/sources new began sum
   if is_later_than_sources "$kept" && read -r sum < "$kept"; then
     printf '%s\n' "$sum"
     return
   fi
-  printf -v began '%(%s)T' -1
-  sum=$(set -o pipefail && print_sums | sha256sum) || return 1
-  sum=${sum%% *}
-  printf '%s\n' "$sum"
-  {
-    mkdir -p "$cache" && new=$(mktemp "$cache/new.XXXXXX") || return 0
-    printf '%s\n' "$sum" > "$new" && touch -d "@$((began - 3))" "$new" && mv -f "$new" "$kept" || rm -f "$new"
-  } 2> /dev/null
+  new=$(mkdir -p "$cache" 2> /dev/null && mktemp "$cache/new.XXXXXX" 2> /dev/null) && began=$(date -r "$new" +%s)
+  if sum=$(set -o pipefail && print_sums | sha256sum); then
+    sum=${sum%% *}
+    printf '%s\n' "$sum"
+    if [ -n "$new" ]; then
+      printf '%s\n' "$sum" > "$new" && touch -d "@$((began - 3))" "$new" && mv -f "$new" "$kept"
+    fi
+  else
+    sum=
+  fi 2> /dev/null
+  [ -z "$new" ] || rm -f "$new"
+  [ -n "$sum" ]
 }
 
 # Whether the program $1 is the one that the file `made` $2 tells of.

@@ -20,8 +20,10 @@ find_query_name() {
 
 # Ends the program with the launcher, where a signal ends that.
 stop_with() {
-  kill -TERM "$child" 2> /dev/null
-  wait "$child"
+  if [ -n "$child" ]; then
+    kill -TERM "$child" 2> /dev/null
+    wait "$child"
+  fi
   echo 2> /dev/null >&7
   [ -z "$room" ] || rm -rf -- "$room"
   trap - "$1"
@@ -47,11 +49,7 @@ open_streams() {
 # Waits for the end of the program, with which the launcher ends where a signal ends that. Where the
 # launcher is killed outright, the end of the pipe 7 tells so to a process that ends the program then.
 wait_for_child() {
-  local status signal
-  for signal in HUP INT QUIT TERM; do
-    # shellcheck disable=SC2064
-    trap "stop_with $signal" "$signal"
-  done
+  local status
   exec 7> >({ read -r || kill -TERM "$child"; } > /dev/null 2>&1 3>&- 4>&- 5<&-)
   wait "$child"
   status=$?
@@ -64,8 +62,13 @@ wait_for_child() {
 # Runs the program as a child, with the text of its errors in $told, and returns its status. It reads
 # the query from 9, if that is open.
 run_child() {
-  local status filter filtered=0
+  local status filter filtered=0 signal
   open_streams
+  child=
+  for signal in HUP INT QUIT TERM; do
+    # shellcheck disable=SC2064
+    trap "stop_with $signal" "$signal"
+  done
   "$program" "${words[@]}" <&5 >&6 2>&4 3>&- 4>&- 5<&- 6>&- &
   child=$!
   exec 6>&-

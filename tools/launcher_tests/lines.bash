@@ -56,6 +56,10 @@ JNDY0021: the text is no JSON
 crlf:2: the text is no JSON: {"b":\x0d
 last:4: the text is no JSON: [
 status 1' "$(at_terminal "$lines" run --let x=1 reading.jq; echo "status $?")"
+  expect "a faulty line of the file of a text" 'crlf:2: the text is no JSON: {"b":\x0d' \
+    "$(at_terminal "$lines" -e 'json-lines("/dev/stdin")' crlf | tail -n 1)"
+  expect "a faulty line of the standard input" '/dev/stdin:2: the text is no JSON: {"b":\x0d' \
+    "$(at_terminal bash -c '"$1" -e "$2" < crlf' - "$lines" 'json-lines("/dev/stdin")' | tail -n 1)"
   expect "a faulty text of parse-json" 'raised JNDY0021 at 1:21
   json-lines("well") ! parse-json("[")
                        ^

@@ -30,6 +30,30 @@ RT
   export CALLS=$work/calls PROGRAM=$work/installed/libexec/rumble/rumble_main
 }
 
+# Sums are taken once while nothing changes. What is kept of them bears an earlier time, so that it
+# counts some seconds later; here that time is put forward.
+test_kept_sums() {
+  mkdir -p counting
+  printf '#!/bin/sh\n[ $# -eq 0 ] || echo "$1" >> %s\nexec %s "$@"\n' "$work/summed" "$(command -v sha256sum)" \
+    > counting/sha256sum
+  chmod +x counting/sha256sum
+  touch checkout/out/sources
+  PATH=$work/counting:$PATH checkout/rumble run q > /dev/null 2>&1
+  expect "sums that are taken while nothing changes" "" "$(cat summed 2> /dev/null)"
+  touch checkout/out/sources
+  sleep 0.1
+  echo '-- changed' >> checkout/crates/low/specs/Low.antt
+  touch -d '1 year ago' checkout/crates/low/specs/Low.antt
+  expect "a run after a change that looks old" $'2 crates\n<run>' \
+    "$(PATH=$work/counting:$PATH checkout/rumble run q 2>&1 | grep -o '2 crates\|<run>')"
+  expect "sums that are taken then" "crates.txt" "$(head -n 1 summed)"
+  touch checkout/out/sources
+  sleep 0.1
+  rm checkout/crates/low/src/more.rt
+  expect "a run after a source was taken away" $'2 crates\n<run>' \
+    "$(checkout/rumble run q 2>&1 | grep -o '2 crates\|<run>')"
+}
+
 test_first_run() {
   make_checkout checkout
   make_rt
@@ -60,6 +84,7 @@ status 70' "$(PATH=/usr/bin:/bin checkout/rumble run q 2>&1; echo "status $?")"
   touch -d '1 year ago' checkout/crates/low/src/more.rt
   expect "a run with one more source, an old one" $'2 crates\n<run>' \
     "$(checkout/rumble run q 2>&1 | grep -o '2 crates\|<run>')"
+  test_kept_sums
   echo 'exit 0' >> checkout/out/built/rumble_main
   expect "a run with another program in the place of the built one" $'2 crates\n<run>' \
     "$(checkout/rumble run q 2>&1 | grep -o '2 crates\|<run>')"
