@@ -5,8 +5,9 @@
 # How many bytes the program gets at a time, and how many of a range are looked at line by line.
 readonly RANGE=16777216 SMALL=1048576
 
-# The bytes of $file from $1 on, up to $2.
-slice() { tail -c +"$(($1 + 1))" -- "$file" | head -c "$(($2 - $1))"; }
+# The bytes of $file from $1 on, up to $2. Where SIGPIPE is ignored, both tools would tell of a pipe that
+# is closed since no more is wanted.
+slice() { tail -c +"$(($1 + 1))" -- "$file" | head -c "$(($2 - $1))"; } 2> /dev/null
 
 # Whether json-lines takes the lines from $1 up to $2; sets $code where it does not. An empty line goes
 # before them, since a byte order mark is passed over at the start of a file alone.

@@ -39,7 +39,7 @@ open_streams() {
   exec 3>&1 4<> <(:) 5<&0
   filter=
   if [ -n "$is_raw" ]; then
-    exec 6> >(export LC_ALL=C && exec awk -f "$parts/text.awk" -f "$parts/raw.awk" >&3 4>&- 5<&-)
+    exec 6> >(export LC_ALL=C && exec awk -f "$parts/text.awk" -f "$parts/raw.awk" >&3 2> /dev/null 4>&- 5<&-)
     filter=$!
   else
     exec 6>&1
@@ -81,7 +81,7 @@ run_child() {
   printf '\0' >&4
   IFS= read -r -d '' told <&4
   told=${told%$'\n'}
-  # A filter that ends by SIGPIPE could not write since nobody reads; else there was no room.
+  # A filter that ends by SIGPIPE could not write since nobody reads; another failure is want of room.
   if [ "$status" -eq 0 ] && [ "$filtered" -ne 0 ] && [ "$filtered" -ne 141 ]; then
     told='write fault' status=5
   fi

@@ -39,6 +39,10 @@ function encoded(code) {
 # Prints the text that the inside of a string of JSON stands for, piece by piece: to join the pieces
 # of a long string takes time with their square.
 function print_unescaped(text,  parts, count, at, mark, code, low) {
+  if (!index(text, "\\")) {
+    printf "%s", text
+    return
+  }
   count = split(text, parts, /\\/)
   printf "%s", parts[1]
   for (at = 2; at <= count; at++) {
