@@ -1,13 +1,17 @@
 # How a run ends: by a signal, and when its output is not wanted any more.
 
-# Whether the process whose number the file $1 has is gone, at the latest after two seconds.
+# Whether the process whose number the file $1 has is gone, at the latest after two seconds. One that
+# nobody has asked for its status is gone too.
 is_gone() {
   local turn
   for turn in {1..40}; do
-    kill -0 "$(cat "$1")" 2> /dev/null || break
+    if ! grep -qs '^State:[[:space:]]*[^Z[:space:]]' "/proc/$(cat "$1")/status"; then
+      echo gone
+      return
+    fi
     sleep 0.05
   done
-  kill -0 "$(cat "$1")" 2> /dev/null && echo runs || echo gone
+  echo runs
 }
 
 # Starts the words after $1 in the background, waits until the program runs, and ends the launcher by
