@@ -87,7 +87,8 @@ look_at() {
   else
     [ -n "$code" ] || reads_well "$1" "$2"
     is_found=1
-    print_told "$1" "$2" "1 $code"
+    # Of one line its start is enough, and awks are slow with lines of many megabytes.
+    print_told "$1" "$(($2 - $1 > 500 ? $1 + 500 : $2))" "1 $code"
   fi
 }
 
