@@ -1,0 +1,7 @@
+mod Covering
+mod NotTold
+mod Leading
+mod Locals
+mod Placing
+mod Rows
+pub mod Walking

@@ -1,0 +1,7 @@
+pub mod Words
+pub mod Spine
+pub mod Drivers
+pub mod Clauses
+pub mod Plans
+pub mod inside
+pub mod Laws

@@ -1,0 +1,3 @@
+-- How the code sees plans.
+pub mod Views
+pub mod Walk
