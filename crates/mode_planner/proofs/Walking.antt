@@ -1,5 +1,5 @@
 -- How the walk over a spine finds its leaves.
-use Rattle.std.proofs.Common.{◌≡◌, ℕ, ◌<◌, Bool, true, false, Option, List, [], ◌∷◌, ◌++◌, length, refl, sym, ap, ◌∙◌, arith}
+use Rattle.std.proofs.Common.{◌≡◌, ℕ, ◌<◌, Bool, true, false, Option, List, [], ◌∷◌, ◌++◌, length, length-append, refl, sym, ap, ◌∙◌, arith}
 use Rattle.std.specs.Prelude.{Vec}
 use Rattle.std.specs.declared.alloc.Global.{Global}
 use Rattle.std.specs.declared.boxed.Box.{Box}
@@ -17,7 +17,7 @@ use Rattle.query_tree.specs.Plain as p
 use Rattle.query_tree.specs.Plain.{Form, MaybeTree, PlainOperands}
 use Rattle.query_tree.specs.Bound.{BoundTree}
 use Rattle.query_tree.specs.BoundViews.{bound_tree, bound_form, bound_operand}
-use Rattle.query_tree.specs.Subtrees.{subtrees, operand_children, operands_children, content_children}
+use Rattle.query_tree.specs.Subtrees.{subtrees, catches_subtrees, operand_children, operands_children, content_children}
 use Rattle.query_tree.specs.inside.Waiting.{lent, waiting}
 use Rattle.query_tree.proofs.Held.{operands-held, content-held, operands-listed}
 use Rattle.query_tree.proofs.Layers.{tree_of-out, form_of-Comma, form_of-Paren, form_of-Try}
@@ -38,7 +38,7 @@ content-parted (p.one_tree t) = sym (append-nil (leaves t))
 form-parted : (place : ℕ) (k : Form Slot Target SeqType) → form_leaves place k ≡ own_leaf (p.tree_node place k) ++ flat_map leaves (form_onward k)
 form-parted place (p.comma_form first rest) = ap (λ ls. leaves first ++ ls) (operands-parted rest)
 form-parted place (p.paren_form content) = content-parted content
-form-parted place (p.try_form body catches) = sym (append-nil (leaves body))
+form-parted place (p.try_form body _) = sym (append-nil (leaves body))
 form-parted place _ = refl
 
 leaves-parted : (t : BoundTree) → leaves t ≡ own_leaf t ++ flat_map leaves (onward t)
@@ -53,7 +53,9 @@ form-fewer place (p.comma_form first rest) =
 form-fewer place (p.paren_form content) =
     let same = ap length (content-held content).same in
     omega (arith, same)
-form-fewer place (p.try_form body catches) = grind (arith, append-nil)
+form-fewer place (p.try_form body handlers) =
+    let alone = ap length (append-nil (subtrees body)) in
+    omega (arith, alone, length-append (subtrees body) (catches_subtrees handlers))
 form-fewer place _ = omega arith
 
 tree-fewer : (t : BoundTree) → length (flat_map subtrees (onward t)) < length (subtrees t)
@@ -120,9 +122,10 @@ walk-more e stack others new found more is waits finds =
 pub walk-fewer : (e : Lent) (stack others new : List Lent) → stack ≡ others ++ e ∷ [] → waiting new ≡ onward (bound_tree e.now) ++ waiting others
     → length (flat_map subtrees (waiting new)) < length (flat_map subtrees (waiting stack))
 walk-fewer e stack others new is waits =
-    let before = ap (λ s. length (flat_map subtrees (waiting s))) is ∙ ap (λ ts. length (flat_map subtrees ts)) (waiting-last others e) in
-    let behind = ap (λ ts. length (flat_map subtrees ts)) waits ∙ ap length (flat_map-append subtrees (onward (bound_tree e.now)) (waiting others)) in
-    omega (arith, before, behind, tree-fewer (bound_tree e.now))
+    let t = bound_tree e.now in
+    let before = ap (λ s. length (flat_map subtrees (waiting s))) is ∙ ap (λ ts. length (flat_map subtrees ts)) (waiting-last others e) ∙ length-append (subtrees t) (flat_map subtrees (waiting others)) in
+    let behind = ap (λ ts. length (flat_map subtrees ts)) waits ∙ ap length (flat_map-append subtrees (onward t) (waiting others)) ∙ length-append (flat_map subtrees (onward t)) (flat_map subtrees (waiting others)) in
+    omega (arith, before, behind, tree-fewer t)
 
 pub walk-done : (stack : List Lent) (found : List BoundTree) → length stack ≡ 0 → found ++ flat_map leaves (waiting stack) ≡ found
 walk-done [] found e = ap (λ ts. found ++ flat_map leaves ts) waiting-none ∙ append-nil found
