@@ -1,3 +1,4 @@
+mod Arguments
 mod Covering
 mod NotTold
 mod Leading

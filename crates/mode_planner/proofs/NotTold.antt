@@ -15,13 +15,15 @@ use Rattle.query_tree.specs.declared.part.Operand.{Operand}
 use Rattle.query_tree.specs.declared.part.Catch.{Catch}
 use Rattle.query_tree.specs.Plain.{PlainClause, Form, clause_layer, kind_layer, expr_layer, form_of, clause_of, tree_of}
 use Rattle.query_tree.specs.Bound.{BoundTree}
-use Rattle.query_tree.specs.BoundViews.{bound_form}
+use Rattle.query_tree.specs.Plain as p
+use Rattle.query_tree.specs.BoundViews.{bound_tree, bound_form}
+use Rattle.query_tree.proofs.Layers.{tree_of-out}
 use Rattle.query_tree.proofs.Folds.{kind_fold}
 use Rattle.mode_planner.specs.declared.plan.End.{End}
 use Rattle.mode_planner.specs.declared.plan.Label.TheVariants as label
 use Rattle.mode_planner.specs.Spine.{passes, form_onward}
 use Rattle.mode_planner.specs.Drivers.{form_driver}
-use Rattle.mode_planner.specs.Plans.{driven_form, form_plan, whole}
+use Rattle.mode_planner.specs.Plans.{driven_form, form_plan, whole, driven_plan}
 
 abbrev BoundExpr : Type 0
 BoundExpr = Expr Slot Target SeqType
@@ -96,3 +98,9 @@ nothing_onward k c f t = by (out-Kind Slot Target SeqType k) refl
     by (node.Paren e) h = absurd (f e (rolled k _ h ∙ kind.rolls-Paren e))
     by (node.Try e es) h = absurd (t e es (rolled k _ h ∙ kind.rolls-Try e es))
     by o h = ap form_onward (kind_fold Slot Target SeqType (PlainClause Slot Target SeqType) (Form Slot Target SeqType) BoundTree (clause_layer Slot Target SeqType) (kind_layer Slot Target SeqType) (expr_layer Slot Target SeqType) k o h)
+
+pub planned_whole : (e : BoundExpr) → NotCall e.kind → NotFlwor e.kind → driven_plan (bound_tree e) ≡ whole (bound_tree e) e.place label.Expression
+planned_whole e c f =
+    let node = p.tree_node e.place (bound_form e.kind) in
+    let is : bound_tree e ≡ node = tree_of-out Slot Target SeqType e in
+    ap driven_plan is ∙ not_planned e.kind c f node e.place ∙ ap (λ t. whole t e.place label.Expression) (sym is)

@@ -64,16 +64,16 @@ fn argument<'q>(
     ensures { IfOk result (λ d.
         option_map driven_of d ≡ argument id (bound_tree_list arguments.now)) }
 {
-    match arguments {
-        [only] => {
-            if folds(id) {
-                driven_tree(alloc, only, End::Part(id))
-            } else {
-                Ok(None)
-            }
-        }
-        _ => Ok(None),
+    let Some((only, rest)) = arguments.split_first() else {
+        return Ok(None);
+    };
+    if !rest.is_empty() {
+        return Ok(None);
     }
+    if !folds(id) {
+        return Ok(None);
+    }
+    driven_tree(alloc, only, End::Part(id))
 }
 
 // A call of a function.
@@ -162,15 +162,15 @@ pub(crate) fn leaf<'q>(
     ensures { IfOk result (λ l. leaf_of l ≡ leaf_plan local (bound_tree tree.now)) }
 {
     let leaf = driven_leaf(alloc, tree)?;
-    if !local {
-        return Ok(leaf);
+    if local {
+        let lines = local_lines(alloc, &leaf.lines)?;
+        return Ok(Leaf {
+            tree: leaf.tree,
+            label: leaf.label,
+            lines,
+            driver: None,
+            stages: Vec::new(alloc),
+        });
     }
-    let lines = local_lines(alloc, &leaf.lines)?;
-    Ok(Leaf {
-        tree,
-        label: leaf.label,
-        lines,
-        driver: None,
-        stages: Vec::new(alloc),
-    })
+    Ok(leaf)
 }
