@@ -1,5 +1,5 @@
 -- What stages cover.
-use Rattle.std.proofs.Common.{◌≡◌, ℕ, zero, suc, ◌+◌, ◌-◌, ◌≤◌, Option, Some, None, true, false, List, [], ◌∷◌, ◌++◌, map, refl, sym, ap, subst, ◌∙◌, arith}
+use Rattle.std.proofs.Common.{◌≡◌, ℕ, zero, suc, ◌+◌, ◌-◌, ◌≤◌, Option, Some, None, false, [], ◌∷◌, ◌++◌, map, refl, sym, ap, subst, ◌∙◌, arith}
 use Rattle.std.specs.Prelude.{option_map}
 use Rattle.std.specs.List.{flat_map, range_with_len}
 use Rattle.std.proofs.lemmas.List.{append-nil}
@@ -15,7 +15,7 @@ use Rattle.mode_planner.specs.declared.plan.End.{End}
 use Rattle.mode_planner.specs.declared.plan.Stage.{Stage}
 use Rattle.mode_planner.specs.Drivers.{DriverPlan, behind_lets, call_driver, clauses_driver}
 use Rattle.mode_planner.specs.Clauses.{clause_end, ended_stage, next_first, stages_from}
-use Rattle.mode_planner.specs.Plans.{Driven, driven, driven_flwor, driven_form}
+use Rattle.mode_planner.specs.Plans.{Driven, driven_flwor, driven_form}
 use Rattle.mode_planner.specs.Laws.{how_many, steps, and_end, ends_from, IsCovered, StagesCoverSteps}
 
 abbrev Clauses : Type 0

@@ -1,5 +1,5 @@
 -- Which FLWORs have a driver.
-use Rattle.std.proofs.Common.{◌≡◌, ℕ, ◌+◌, Option, Some, None, true, false, Bool, List, [], ◌∷◌, ◌++◌, length, refl, sym, ap, subst, ◌∙◌, arith}
+use Rattle.std.proofs.Common.{◌≡◌, ℕ, ◌+◌, Option, Some, true, false, List, [], ◌∷◌, ◌++◌, length, refl, sym, ap, subst, ◌∙◌, arith}
 use Rattle.std.specs.Prelude.{option_map, is_some, if◌then◌else◌}
 use Rattle.std.specs.List.{All}
 use Rattle.std.proofs.lemmas.List.Elements.{All-nil, All-cons, All-head, All-tail}
@@ -10,7 +10,6 @@ use Rattle.query_tree.specs.declared.bound.Target.TheVariants.{Built, Own, Lines
 use Rattle.query_tree.specs.declared.names.Placed.{Placed}
 use Rattle.query_tree.specs.Plain as p
 use Rattle.query_tree.specs.Plain.{Form, PlainClause, PlainClauses, Trees}
-use Rattle.query_tree.specs.Bound.{BoundTree}
 use Rattle.query_tree.proofs.Lists.{listed_clauses-back}
 use Rattle.mode_planner.specs.Drivers.{DriverPlan, behind_lets, form_driver, is_let, clause_driver, clauses_driver}
 use Rattle.mode_planner.specs.Laws.{HasDriver, DriversStandFirst}

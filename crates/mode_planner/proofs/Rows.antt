@@ -1,5 +1,5 @@
 -- The plans of some queries, by computation. Places count from 0.
-use Rattle.std.proofs.Common.{◌≡◌, ℕ, pos, Bool, true, false, Option, None, Some, List, [], ◌∷◌, ◌++◌, map, codes, refl}
+use Rattle.std.proofs.Common.{◌≡◌, ℕ, pos, Bool, true, false, Option, None, Some, List, [], ◌∷◌, map, codes, refl}
 use Rattle.std.specs.List.{flat_map}
 use Rattle.item_tree.specs.declared.functions.FnId.{FnId}
 use Rattle.item_tree.specs.declared.functions.FnId.TheVariants.{Count, Sum, Head}

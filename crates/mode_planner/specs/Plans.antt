@@ -1,6 +1,6 @@
 -- The plan of a query: of each leaf of its body what it is, how its parts are evaluated, and what
 -- runs over pieces.
-use Rattle.std.specs.Prelude.{ℕ, ◌+◌, Bool, true, false, if◌then◌else◌, Option, None, Some, option_map, List, [], ◌∷◌, ◌++◌, map}
+use Rattle.std.specs.Prelude.{ℕ, Bool, if◌then◌else◌, Option, None, Some, option_map, List, [], ◌∷◌, ◌++◌, map}
 use Rattle.item_tree.specs.declared.functions.FnId.{FnId}
 use Rattle.seq_types.specs.declared.types.SeqType.{SeqType}
 use Rattle.query_tree.specs.declared.bound.Slot.{Slot}

@@ -1,4 +1,4 @@
-use Rattle.std.proofs.Common.{◌≡◌, sym, ap, map, ◌∙◌}
+use Rattle.std.proofs.Common.{sym, ap, map, ◌∙◌}
 use Rattle.query_tree.specs.BoundViews.{bound_tree}
 use Rattle.mode_planner.specs.Plans.{local_line, leaf_plan}
 use Rattle.mode_planner.proofs.Locals.{made_local}
