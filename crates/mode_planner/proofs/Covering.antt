@@ -13,7 +13,7 @@ use Rattle.query_tree.specs.Plain.{Form, PlainClauses}
 use Rattle.query_tree.specs.Bound.{BoundTree}
 use Rattle.mode_planner.specs.declared.plan.End.{End}
 use Rattle.mode_planner.specs.declared.plan.Stage.{Stage}
-use Rattle.mode_planner.specs.Drivers.{DriverPlan, behind_lets, call_driver, clauses_driver}
+use Rattle.mode_planner.specs.Drivers.{DriverPlan, after_lets, call_driver, clauses_driver}
 use Rattle.mode_planner.specs.Clauses.{clause_end, ended_stage, next_first, stages_from}
 use Rattle.mode_planner.specs.Plans.{Driven, driven_flwor, driven_form}
 use Rattle.mode_planner.specs.Laws.{how_many, steps, and_end, ends_from, IsCovered, StagesCoverSteps}
@@ -82,7 +82,7 @@ abbrev lets_of : Option DriverPlan → ℕ
 lets_of None = 0
 lets_of (Some d) = d.lets
 
-for-lets : (lets : ℕ) (at : Option (Placed Slot)) (o : Option DriverPlan) (d : DriverPlan) → option_map (behind_lets lets at) o ≡ Some d → lets ≡ d.lets
+for-lets : (lets : ℕ) (at : Option (Placed Slot)) (o : Option DriverPlan) (d : DriverPlan) → option_map (after_lets lets at) o ≡ Some d → lets ≡ d.lets
 for-lets lets at None d h = absurd (nothing _ h)
 for-lets lets at (Some x) d h = ap lets_of h
 

@@ -11,7 +11,7 @@ use Rattle.query_tree.specs.declared.names.Placed.{Placed}
 use Rattle.query_tree.specs.Plain as p
 use Rattle.query_tree.specs.Plain.{Form, PlainClause, PlainClauses, Trees}
 use Rattle.query_tree.proofs.Lists.{listed_clauses-back}
-use Rattle.mode_planner.specs.Drivers.{DriverPlan, behind_lets, form_driver, is_let, clause_driver, clauses_driver}
+use Rattle.mode_planner.specs.Drivers.{DriverPlan, after_lets, form_driver, is_let, clause_driver, clauses_driver}
 use Rattle.mode_planner.specs.Laws.{HasDriver, DriversStandFirst}
 use Rattle.mode_planner.proofs.Covering.{nothing, some-same}
 
@@ -34,14 +34,14 @@ record HasFrom (number : ℕ) (clauses : Clauses) (d : DriverPlan) : Type 0 wher
   type : Option (Placed SeqType)
   at : Option (Placed Slot)
   arguments : Trees Slot Target SeqType
-  behind : List Clause
+  after : List Clause
   lets : All (λ c. is_let c ≡ true) before
-  parted : clauses ≡ p.clauses_of Slot Target SeqType (before ++ driving variable type at d.place d.names arguments ∷ behind)
+  parted : clauses ≡ p.clauses_of Slot Target SeqType (before ++ driving variable type at d.place d.names arguments ∷ after)
   counted : d.lets ≡ number + length before
   position : d.position ≡ is_some at
 
 source-found : (number : ℕ) (variable : Placed Slot) (t : Option (Placed SeqType)) (at : Option (Placed Slot)) (place : ℕ) (k : Form Slot Target SeqType) (cs : Clauses) (d : DriverPlan)
-    → option_map (behind_lets number at) (form_driver place k) ≡ Some d
+    → option_map (after_lets number at) (form_driver place k) ≡ Some d
     → HasFrom number (p.more_clauses (p.for_clause variable t false at (p.tree_node place k)) cs) d
 source-found number variable t at place (p.call_form (Lines names) arguments) cs d h =
     subst (HasFrom number (p.more_clauses (driving variable t at place names arguments) cs)) (some-same _ d h) (record {
@@ -50,7 +50,7 @@ source-found number variable t at place (p.call_form (Lines names) arguments) cs
       type = t;
       at = at;
       arguments = arguments;
-      behind = p.listed_clauses Slot Target SeqType cs;
+      after = p.listed_clauses Slot Target SeqType cs;
       lets = All-nil IsLet;
       parted = ap (p.more_clauses (driving variable t at place names arguments)) (sym (listed_clauses-back Slot Target SeqType cs));
       counted = omega arith;
@@ -70,7 +70,7 @@ found-from number (p.more_clauses (p.let_clause variable t value) cs) d h =
       type = r.type;
       at = r.at;
       arguments = r.arguments;
-      behind = r.behind;
+      after = r.after;
       lets = All-cons IsLet (p.let_clause variable t value) r.before refl r.lets;
       parted = ap (p.more_clauses (p.let_clause variable t value)) r.parted;
       counted = omega (arith, r.counted);
@@ -88,7 +88,7 @@ has-found cs d h =
       type = r.type;
       at = r.at;
       arguments = r.arguments;
-      behind = r.behind;
+      after = r.after;
       lets = r.lets;
       parted = r.parted;
       counted = omega (arith, r.counted);
@@ -103,19 +103,19 @@ passes-let number c cs h = ap (λ b. if b then clauses_driver (number + 1) cs el
 abbrev with_lets : ℕ → List (List ℕ) → Option (Placed Slot) → ℕ → DriverPlan
 with_lets place names at lets = record { place = place; names = names; lets = lets; position = is_some at }
 
-reached : (number place : ℕ) (names : List (List ℕ)) (variable : Placed Slot) (t : Option (Placed SeqType)) (at : Option (Placed Slot)) (arguments : Trees Slot Target SeqType) (before behind : List Clause)
+reached : (number place : ℕ) (names : List (List ℕ)) (variable : Placed Slot) (t : Option (Placed SeqType)) (at : Option (Placed Slot)) (arguments : Trees Slot Target SeqType) (before after : List Clause)
     → All (λ c. is_let c ≡ true) before
-    → clauses_driver number (p.clauses_of Slot Target SeqType (before ++ driving variable t at place names arguments ∷ behind)) ≡ Some (with_lets place names at (number + length before))
-reached number place names variable t at arguments [] behind h = ap (λ n. Some (with_lets place names at n)) (omega arith)
-reached number place names variable t at arguments (c ∷ before) behind h =
-    passes-let number c (p.clauses_of Slot Target SeqType (before ++ driving variable t at place names arguments ∷ behind)) (All-head IsLet c before h)
-    ∙ reached (number + 1) place names variable t at arguments before behind (All-tail IsLet c before h)
+    → clauses_driver number (p.clauses_of Slot Target SeqType (before ++ driving variable t at place names arguments ∷ after)) ≡ Some (with_lets place names at (number + length before))
+reached number place names variable t at arguments [] after h = ap (λ n. Some (with_lets place names at n)) (omega arith)
+reached number place names variable t at arguments (c ∷ before) after h =
+    passes-let number c (p.clauses_of Slot Target SeqType (before ++ driving variable t at place names arguments ∷ after)) (All-head IsLet c before h)
+    ∙ reached (number + 1) place names variable t at arguments before after (All-tail IsLet c before h)
     ∙ ap (λ n. Some (with_lets place names at n)) (omega arith)
 
 all-reached : (cs : Clauses) (d : DriverPlan) → HasDriver cs d → clauses_driver 0 cs ≡ Some d
 all-reached cs d r =
     ap (clauses_driver 0) r.parted
-    ∙ reached 0 d.place d.names r.variable r.type r.at r.arguments r.before r.behind r.lets
+    ∙ reached 0 d.place d.names r.variable r.type r.at r.arguments r.before r.after r.lets
     ∙ ap (λ n. Some (with_lets d.place d.names r.at n)) (omega (arith, r.counted))
     ∙ ap (λ b. Some (record { place = d.place; names = d.names; lets = d.lets; position = b })) (sym r.position)
 

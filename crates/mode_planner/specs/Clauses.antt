@@ -64,12 +64,13 @@ mode_of lets number c = if nat_le number lets then Local else clause_mode c
 abbrev pub lines_from : ℕ → ℕ → PlainClauses Slot Target SeqType → List Line
 lines_from lets number p.no_clauses = []
 lines_from lets number (p.more_clauses c cs) =
-    line (clause_place c) (clause_label c) (mode_of lets number c) ∷ lines_from lets (number + 1) cs
+    line (clause_place c) (clause_label c) (mode_of lets number c)
+    ∷ lines_from lets (number + 1) cs
 
 -- ---- the stages
 
 -- what a clause of this number does to a stage that begins at `first`, if it is gathered: the
--- stage ends with it, and the next one begins behind it
+-- stage ends with it, and the next one begins after it
 abbrev pub ended_stage : ℕ → ℕ → Option End → List Stage
 ended_stage first number None = []
 ended_stage first number (Some end) = stage first number end ∷ []

@@ -40,17 +40,17 @@ abbrev pub is_let : PlainClause Slot Target SeqType → Bool
 is_let (p.let_clause variable t value) = true
 is_let _ = false
 
-abbrev pub behind_lets : ℕ → Option (Placed Slot) → DriverPlan → DriverPlan
-behind_lets lets at d = record d { lets = lets; position = is_some at }
+abbrev pub after_lets : ℕ → Option (Placed Slot) → DriverPlan → DriverPlan
+after_lets lets at d = record d { lets = lets; position = is_some at }
 
--- A clause before which only so many `let`s stand. With `allowing empty` a `for` needs to know
--- whether there is an item in the whole input, so it drives nothing.
+-- A clause before which that many `let`s stand and nothing else. With `allowing empty` a `for` needs
+-- to know whether there is an item in the whole input, so it drives nothing.
 abbrev pub clause_driver : ℕ → PlainClause Slot Target SeqType → Option DriverPlan
 clause_driver lets (p.for_clause variable t false at source) =
-    option_map (behind_lets lets at) (call_driver source)
+    option_map (after_lets lets at) (call_driver source)
 clause_driver lets _ = None
 
--- clauses before which only so many `let`s stand
+-- clauses before which that many `let`s stand and nothing else
 abbrev pub clauses_driver : ℕ → PlainClauses Slot Target SeqType → Option DriverPlan
 clauses_driver lets p.no_clauses = None
 clauses_driver lets (p.more_clauses c cs) =

@@ -38,11 +38,11 @@ pub record HasDriver (clauses : PlainClauses Slot Target SeqType) (d : DriverPla
   pub type : Option (Placed SeqType)
   pub at : Option (Placed Slot)
   pub arguments : Trees Slot Target SeqType
-  pub behind : List (PlainClause Slot Target SeqType)
+  pub after : List (PlainClause Slot Target SeqType)
   pub lets : All (λ c. is_let c ≡ true) before
   pub parted : clauses ≡ p.clauses_of Slot Target SeqType (before
       ++ p.for_clause variable type false at
-      (p.tree_node d.place (p.call_form (Lines d.names) arguments)) ∷ behind)
+      (p.tree_node d.place (p.call_form (Lines d.names) arguments)) ∷ after)
   pub counted : d.lets ≡ length before
   pub position : d.position ≡ is_some at
 

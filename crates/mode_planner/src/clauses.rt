@@ -10,7 +10,7 @@ use item_tree::NoMemory;
 use query_tree::Clause;
 use std::alloc::Global;
 
-// The line of a clause behind the driver, or of the driver.
+// The line of the driver's clause or of a clause after it.
 #[tactic(auto, using(query_tree::proofs::Layers::layers))]
 fn clause_line(clause: &BoundClause) -> Line
     ensures { result ≡ line (clause_place (bound_clause clause.now))
@@ -27,7 +27,7 @@ fn clause_line(clause: &BoundClause) -> Line
     Line { place, label, mode }
 }
 
-// The line of the clause of this number, where only so many `let`s stand before the driver.
+// The line of the clause of this number, where that many `let`s stand before the driver.
 fn numbered_line(lets: u32, number: u32, clause: &BoundClause) -> Line
     ensures { result ≡ line (clause_place (bound_clause clause.now))
         (clause_label (bound_clause clause.now)) (mode_of lets number (bound_clause clause.now)) }
@@ -39,7 +39,7 @@ fn numbered_line(lets: u32, number: u32, clause: &BoundClause) -> Line
     line
 }
 
-/// The lines of clauses, where only so many `let`s stand before the driver.
+/// The lines of clauses, where that many `let`s stand before the driver.
 pub(crate) fn clause_lines(
     alloc: Global,
     lets: u32,
@@ -70,7 +70,7 @@ fn clause_end(clause: &BoundClause) -> Option<End>
     }
 }
 
-/// The stages of clauses, where only so many `let`s stand before the driver, and the last stage has
+/// The stages of clauses, where that many `let`s stand before the driver, and the last stage has
 /// this end.
 pub(crate) fn clause_stages(
     alloc: Global,

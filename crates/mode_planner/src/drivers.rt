@@ -53,7 +53,7 @@ fn is_let(clause: &BoundClause) -> bool
     }
 }
 
-// The driver that a clause goes over, before which only so many `let`s stand.
+// The driver that a clause goes over, before which that many `let`s stand and nothing else.
 #[tactic(auto, using(query_tree::proofs::Layers::layers))]
 fn clause_driver<'q>(lets: u32, clause: &'q BoundClause) -> Option<Driver<'q>>
     ensures { option_map driver_of result ≡ clause_driver lets (bound_clause clause.now) }

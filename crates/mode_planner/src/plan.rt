@@ -1,3 +1,5 @@
+//! The plan of a query, and what it says of each leaf.
+
 use item_tree::FnId;
 use query_tree::{BoundExpr, InputNames};
 
@@ -65,7 +67,7 @@ pub enum End {
 }
 
 /// A run of steps that goes over pieces, and what it ends in. A clause is a step of its number,
-/// counted from 1, and `return` of the number behind them. Reading the lines is a step too: it
+/// counted from 1, and `return` of the number after theirs. Reading the lines is a step too: it
 /// stands before the clause that the driver is in, and has the number of the clause before that
 /// one. A call of `json-lines` over which no FLWOR stands is the step 0.
 #[derive(Clone, Copy, Debug, PartialEq, Eq)]
@@ -84,7 +86,7 @@ pub struct Driver<'q> {
     /// The names of the files that together are its input, in order.
     pub names: &'q InputNames,
     /// How many `let`s stand before the `for` over the call. They are evaluated once, and that
-    /// `for` is the clause behind them. 0 where no FLWOR stands over the call.
+    /// `for` is the clause after them. 0 where no FLWOR stands over the call.
     pub lets: u32,
     /// Whether that `for` has an `at`, for which the lines of earlier pieces are counted first.
     pub position: bool,

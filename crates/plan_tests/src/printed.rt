@@ -1,5 +1,5 @@
-//! Plans as text, for the tests: a line for each part, and a stroke behind it; behind the lines of
-//! a leaf that has a driver stand the driver and the stages, in brackets.
+//! Plans as text, for the tests: a line for each part, and a stroke after it; after the lines of a
+//! leaf that has a driver stand the driver and the stages, in brackets.
 
 use mode_planner::{Driver, End, Leaf, Line, Plan, Stage};
 use std::alloc::Global;
