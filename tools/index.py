@@ -12,7 +12,7 @@ from pathlib import Path
 TOP = Path(__file__).resolve().parent.parent
 HEAD = """# Index
 
-Every file of code (`src/`) and of definitions (`specs/`), crate by crate, by its first comment. A name before a colon is the first item that has a comment. Files that only name other files are left out. `tools/index.py` writes this page. [ARCHITECTURE.md](ARCHITECTURE.md) has the map: what the crates are, and where each definition stands.
+Every file of code (`src/`) and of definitions (`specs/`), crate by crate, by its first comment. A name before a colon is the first item that has a comment. Files that only name other files are left out. `tools/index.py` writes this page. [ARCHITECTURE.md](ARCHITECTURE.md) has the map: what the crates are, and who stands on whom.
 """
 ITEM = re.compile(r"(?:pub(?:\([^)]*\))? )?(?:fn|struct|enum|trait|type|const|static) (\w+)")
 
