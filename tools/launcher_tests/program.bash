@@ -4,7 +4,7 @@
 make_checkout() {
   mkdir -p "$1"/crates/{low,rumble_main,unused}/{src,specs,proofs} "$1"/tools
   cp "$repository/rumble" "$repository/Makefile" "$1/"
-  cp -r "$repository/launcher" "$1/launcher"
+  cp -r "$repository/launcher" "$repository/share" "$1/"
   cp "$repository"/tools/{prove_all,release} "$1/tools/"
   printf 'low: itoa\n# a comment\nrumble_main: low\nunused: low\n' > "$1/crates.txt"
   echo 'fn low() {}' | tee "$1"/crates/{low,rumble_main,unused}/src/lib.rt > "$1/crates/low/specs/Low.antt"
@@ -144,6 +144,8 @@ proved with kit of the test
 $work/prefix/libexec/rumble/rumble_main, as installed
 <run>
 <query 1>" "$(prefix/bin/rumble --version; prefix/bin/rumble -e 1)"
+  expect "what is installed beside it" "share/bash-completion/completions/rumble
+share/man/man1/rumble.1" "$(cd prefix && find share -type f | LC_ALL=C sort)"
   expect "what stays when it is taken away" "" "$(make -C copies/plain uninstall PREFIX="$work/prefix" > /dev/null; find prefix -type f)"
   cp -r fresh copies/pair
   expect "two first runs at once" $'<q>\n<q>\n<run>\n<run>' "$(
