@@ -11,11 +11,12 @@ count_lines() {
   done | xargs -0 -r cat | wc -l
 }
 
-# How many crates to prove at a time: one a processor, with three gigabytes of memory for each.
+# How many crates to prove at a time: one a processor, with four gigabytes of memory for each:
+# the four that take most take 16 together.
 print_jobs() {
   local jobs memory
   jobs=$(nproc 2> /dev/null || echo 1)
-  memory=$(awk '/^MemAvailable:/ { print int($2 / 3000000) }' /proc/meminfo 2> /dev/null)
+  memory=$(awk '/^MemAvailable:/ { print int($2 / 4000000) }' /proc/meminfo 2> /dev/null)
   if [ "${memory:-1}" -lt "$jobs" ]; then
     jobs=${memory:-1}
   fi
