@@ -76,7 +76,7 @@ module _ {A B F : Type 0} (K : Type 0) (number : ℕ) (f : A → Result (List B)
   zero_moved (Ok ys) = refl
   zero_moved (Err e) = ap (λ (k : ℕ). Err (record e { tuple = k })) (omega arith)
 
-  read_behind : (xs ys : List A) → each_read {K = K} number f (xs ++ ys) ≡ joined (each_read number f xs) (each_read number f ys)
+  pub read_behind : (xs ys : List A) → each_read {K = K} number f (xs ++ ys) ≡ joined (each_read number f xs) (each_read number f ys)
   read_behind [] ys = sym (nothing_in_front (each_read number f ys))
   read_behind (x ∷ xs) ys =
       ap (joined (met_at number 1 (f x))) (read_behind xs ys)

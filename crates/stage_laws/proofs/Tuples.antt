@@ -1,12 +1,12 @@
 -- One tuple at a time.
 use Rattle.std.proofs.Common.{◌≡◌, ℕ, ◌+◌, ◌<◌, ◌≤◌, ◌==◌, Bool, true, false, nat_lt, if◌then◌else◌, List, [], ◌∷◌, ◌++◌, length, length-append, append-nil, Result, Ok, Err, refl, sym, ap, ap₂, ◌∙◌, subst, arith}
-use Rattle.stage_laws.specs.Runs.{Met, ◌>>=◌, joined, met_at, each_from}
-use Rattle.stage_laws.specs.Stages.{Stage, into_next, narrow}
+use Rattle.stage_laws.specs.Runs.{Met, ◌>>=◌, joined, met_at, each_from, each_read}
+use Rattle.stage_laws.specs.Stages.{Stage, into_next, narrow, driver}
 use Rattle.stage_laws.specs.Pieces.{whole, met, clean, told_below, further, moved, first_fault, Follow, behind, Known, known, clear, SoFar, by_outcome}
 use Rattle.stage_laws.specs.Laws.{ClearBelow, Falls, IsTrueOf, reach, Tells}
-use Rattle.stage_laws.specs.Tuples.{limit_of, one_more, faulted, opening_known, opening, Began, outcome_of, TakesOne, RunsThrough, ComesOut, TuplesTell}
+use Rattle.stage_laws.specs.Tuples.{limit_of, one_more, faulted, opening_known, opening, Began, outcome_of, TakesOne, TakesLines, RunsThrough, ComesOut, TuplesTell}
 use Rattle.stage_laws.proofs.Basics.{lt_true, lt_false, eq_true, eq_false, eq_is, eq_not, picks, passes}
-use Rattle.stage_laws.proofs.Steps.{LeftAt, each_splits, narrow_falls}
+use Rattle.stage_laws.proofs.Steps.{LeftAt, each_splits, read_splits, read_behind, narrow_falls}
 
 module _ {A M B K F : Type 0} (number last : ℕ) (empty : B) (follow : Follow B K F) (f : A → Result (List M) F) (rest : Stage M B K F) (falls : Falls (number + 1) last empty follow rest) (up_to : number ≤ last) where
   abbrev all : Falls number last empty follow (narrow number f rest)
@@ -157,6 +157,51 @@ module _ {A M B K F : Type 0} (number last : ℕ) (empty : B) (follow : Follow B
   pub takes_one : TakesOne number last f rest
   takes_one = record { held = held; faults = faults; down = down; up = up }
 
+-- ---- lines of a driver
+
+module _ {A M B K F : Type 0} (number last : ℕ) (f : A → Result (List M) F) (rest : Stage M B K F) where
+  abbrev lines_of : Stage A B K F
+  lines_of = driver number f rest
+
+  no_lines : (xs : List A) → lines_of.into number xs ≡ 0
+  no_lines xs = picks (number == number) 0 (into_next rest number (each_read {K = K} number f xs)) (eq_true number number refl)
+
+  behind_in : (xs : List A) (ys : List M) (c : ℕ) → each_read {K = K} number f xs ≡ Ok ys → number + 1 ≤ c → lines_of.into c xs ≡ rest.into c ys
+  behind_in xs ys c h le =
+      let ne : c ≡ number → ⊥ = λ (e : c ≡ number). omega arith in
+      passes (c == number) 0 (into_next rest c (each_read {K = K} number f xs)) (eq_false c number ne) ∙ ap (into_next rest c) h
+
+  at_number : (xs : List A) (into : ℕ → ℕ) (c : ℕ) → into number ≡ 0 → number ≡ c → into c ≡ lines_of.into c xs
+  at_number xs into c none e = subst (λ (c : ℕ). into c ≡ lines_of.into c xs) e (none ∙ sym (no_lines xs))
+
+  counted_lines : (xs : List A) (ys : List M) (g : SoFar B K F) (c : ℕ) (b : Bool) → (c == number) ≡ b → each_read {K = K} number f xs ≡ Ok ys → g.into number ≡ 0 → (number + 1 ≤ c → g.into c ≡ rest.into c ys) → number ≤ c → g.into c ≡ lines_of.into c xs
+  counted_lines xs ys g c true is h none m le = at_number xs g.into c none (sym (eq_is c number is))
+  counted_lines xs ys g c false is h none m le =
+      let ne : c ≡ number → ⊥ = eq_not c number is in
+      let lt : number + 1 ≤ c = omega arith in
+      m lt ∙ sym (behind_in xs ys c h lt)
+
+  pub takes_lines : TakesLines number last f rest
+  takes_lines = record {
+    reads = λ xs ys g h none tg. record {
+      is = subst (λ (q : Result (List M) (Met K F)). IsTrueOf last g.what (q >>= rest.run)) (sym h) tg.is;
+      counts = λ c from k. counted_lines xs ys g c (c == number) refl h none (λ lt. tg.counts c lt k) from;
+    };
+    faults = λ xs e into h none. record {
+      is = ap (λ (q : Result (List M) (Met K F)). q >>= rest.run) h;
+      counts = λ c from k.
+          let at : e.step ≡ number = subst (LeftAt number) h ((read_splits K number f).left xs) in
+          let le : c ≤ e.step = k in
+          let e : number ≡ c = omega arith in
+          at_number xs into c none e;
+    };
+    down = λ xs ys g h tg. record {
+      is = subst (λ (q : Result (List M) (Met K F)). IsTrueOf last g.what (q >>= rest.run)) h tg.is;
+      counts = λ c from k. tg.counts c (omega arith) k ∙ behind_in xs ys c h from;
+    };
+    goes_on = read_behind K number f;
+  }
+
 -- ---- behind the last step
 
 pub comes_out : (A K F : Type 0) → ComesOut A K F
@@ -211,6 +256,7 @@ module _ {A B K F : Type 0} (first last : ℕ) (empty : B) (follow : Follow B K 
 pub tuples_tell : (A M W K F : Type 0) → TuplesTell A M W K F
 tuples_tell A M W K F = record {
   takes = takes_one;
+  lines = λ number last empty follow f rest falls up. takes_lines number last f rest;
   comes_out = comes_out A K F;
   through = runs_through;
 }

@@ -1,8 +1,8 @@
 -- One tuple at a time: each goes through all steps before the next one does, and from the first fault
 -- on only the steps below it are run.
 use Rattle.std.specs.Prelude.{◌≡◌, ℕ, ◌+◌, ◌==◌, ◌<◌, ◌≤◌, Bool, if◌then◌else◌, List, [], ◌∷◌, ◌++◌, length, Result, Ok, Err}
-use Rattle.stage_laws.specs.Runs.{each_from}
-use Rattle.stage_laws.specs.Stages.{Stage, ended, narrow}
+use Rattle.stage_laws.specs.Runs.{Met, joined, each_from, each_read}
+use Rattle.stage_laws.specs.Stages.{Stage, ended, narrow, driver}
 use Rattle.stage_laws.specs.Pieces.{Outcome, whole, met, clean, Counted, Follow, Known, known, clear, SoFar}
 use Rattle.stage_laws.specs.Laws.{Falls, Tells, IsCarry}
 
@@ -80,6 +80,22 @@ pub record TakesOne {A M B K F : Type 0} (number last : ℕ) (f : A → Result (
       → Tells (number + 1) last rest (ys ++ zs) g
       → Tells number last (narrow number f rest) (xs ++ x ∷ []) g
 
+-- A step of a driver takes in a list of lines. It gives a list, for which the same state tells, or a
+-- fault; no step behind it has run then. Lines that come later go on.
+pub record TakesLines {A M B K F : Type 0} (number last : ℕ) (f : A → Result (List M) F)
+    (rest : Stage M B K F) : Type 0 where
+  pub reads : (xs : List A) (ys : List M) (g : SoFar B K F) → each_read {K = K} number f xs ≡ Ok ys
+      → g.into number ≡ 0 → Tells (number + 1) last rest ys g
+      → Tells number last (driver number f rest) xs g
+  pub faults : (xs : List A) (e : Met K F) (into : ℕ → ℕ) → each_read number f xs ≡ Err e
+      → into number ≡ 0
+      → Tells number last (driver number f rest) xs (record { what = known (Err e); into = into })
+  pub down : (xs : List A) (ys : List M) (g : SoFar B K F) → each_read {K = K} number f xs ≡ Ok ys
+      → Tells number last (driver number f rest) xs g → Tells (number + 1) last rest ys g
+  pub goes_on : (xs ys : List A)
+      → each_read {K = K} number f (xs ++ ys)
+      ≡ joined (each_read number f xs) (each_read number f ys)
+
 -- how a run at a limit begins, and that at its end what is known is the outcome at this limit
 pub record RunsThrough {A B K F : Type 0} (first last : ℕ) (empty : B) (s : Stage A B K F)
     : Type 0 where
@@ -98,6 +114,9 @@ pub record TuplesTell (A M W K F : Type 0) : Type 0 where
   pub takes : (number last : ℕ) (empty : W) (follow : Follow W K F) (f : A → Result (List M) F)
       (rest : Stage M W K F) → Falls (number + 1) last empty follow rest → number ≤ last
       → TakesOne number last f rest
+  pub lines : (number last : ℕ) (empty : W) (follow : Follow W K F) (f : A → Result (List M) F)
+      (rest : Stage M W K F) → Falls (number + 1) last empty follow rest → number ≤ last
+      → TakesLines number last f rest
   pub comes_out : ComesOut A K F
   pub through : (first last : ℕ) (empty : W) (follow : Follow W K F) (s : Stage A W K F)
       → Falls first last empty follow s → RunsThrough first last empty s
