@@ -3,4 +3,6 @@ pub mod Opens
 pub mod World
 pub mod InMemory
 pub mod AfterCalls
+pub mod Outputs
+pub mod MemOutputs
 pub mod inside

@@ -1,4 +1,4 @@
-ghost use Rattle.std.specs.Prelude.{◌≡◌, ◌<◌, ◌≤◌, ◌↔◌, length, IfOk, IsErr};
+ghost use Rattle.std.specs.Prelude.{◌≡◌, ◌<◌, ◌≤◌, ◌↔◌, length, nat_lt, IfOk, IsErr};
 ghost use Rattle.outside.specs.InMemory.{takes_of, IsStuck};
 ghost use Rattle.outside.specs.AfterCalls.{new_sink, after_write};
 
@@ -74,6 +74,13 @@ impl MemSink {
         ensures stuck { 0 < self.now.faults → IsStuck self.now }
     {
         &self.bytes
+    }
+
+    /// Whether a write has failed.
+    pub(crate) fn has_failed(&self) -> bool
+        ensures { result ≡ nat_lt 0 self.now.faults }
+    {
+        self.faults > 0
     }
 }
 

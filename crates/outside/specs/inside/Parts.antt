@@ -1,7 +1,8 @@
 -- The parts that objects in memory are made of. No caller needs these.
-use Rattle.std.specs.Prelude.{◌≤◌, ◌<◌, ◌≡◌, ◌-◌, ℕ, Bool, List, Option, None, Some, Result, Ok, Err, min}
+use Rattle.std.specs.Prelude.{◌≤◌, ◌<◌, ◌≡◌, ◌+◌, ◌-◌, ◌^◌, ℕ, Bool, List, Option, None, Some, Result, Ok, Err, All, length, min}
 use Rattle.outside.specs.Counted.{count_up, count_if}
-use Rattle.outside.specs.InMemory.{FailingFiles}
+use Rattle.outside.specs.InMemory.{FailingFiles, BoundedSink}
+use Rattle.outside.specs.MemOutputs.{empty_sink}
 use Rattle.outside.specs.declared.input.OpenFault.{OpenFault}
 use Rattle.outside.specs.declared.input.OpenFault.TheVariants.{Missing, Failed, NoMemory}
 
@@ -21,3 +22,15 @@ pub record KeepsRoom (written capacity room most faults : ℕ) : Type 0 where
   pub within : written ≤ room
   pub reserved : room ≤ capacity
   pub stuck : 0 < faults → min most (room - written) ≡ 0
+
+-- sinks of this room that wait for their numbers
+abbrev pub AllSpare : ℕ → List BoundedSink → Type 0
+AllSpare room spare = All (λ sink. sink ≡ empty_sink room 0) spare
+
+-- each sink is spare, given out or finished, and a finished one finds room
+pub record KeepsSinks (spare : List BoundedSink) (room pending done capacity count : ℕ)
+    : Type 0 where
+  pub fresh : AllSpare room spare
+  pub parted : length spare + (done + pending) ≡ count
+  pub reserved : count ≤ capacity
+  pub counted : count < 2 ^ 32
