@@ -1,0 +1,5 @@
+pub mod Steps
+pub mod Ends
+pub mod Values
+pub mod Drivers
+pub mod Laws
