@@ -1,8 +1,10 @@
-//! Tests of the tables of tuples, of groups and of orders. There is nothing else in this crate.
+//! Tests of the tables of tuples, of groups, of orders and of keys. There is nothing else in this crate.
 #![tactic(auto)]
 
 #[cfg(test)]
 mod group_lists;
+#[cfg(test)]
+mod join_lists;
 #[cfg(test)]
 mod order_lists;
 #[cfg(test)]

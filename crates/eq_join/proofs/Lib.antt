@@ -1,0 +1,4 @@
+mod Comparisons
+mod PairLists
+mod KeyPlaces
+mod Positions

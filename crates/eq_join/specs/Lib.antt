@@ -1,0 +1,4 @@
+pub mod Pairs
+pub mod Clashes
+pub mod Laws
+pub mod inside

@@ -1,0 +1,3 @@
+-- How the code goes about it.
+pub mod Noted
+pub mod Places

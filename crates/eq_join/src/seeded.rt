@@ -1,0 +1,23 @@
+use std::hash::{BuildHasher, DefaultHasher, Hasher};
+
+/// Makes hashers that have read a seed, so that whoever does not know it cannot choose keys of one
+/// hash.
+#[derive(Clone, Copy, Debug)]
+pub(crate) struct Seeded {
+    pub(crate) seed: u64,
+}
+
+impl BuildHasher for Seeded {
+    ghost use Rattle.std.specs.Hash.{le_bytes};
+    ghost use Rattle.std.specs.Hash.DefaultHasher as sip;
+
+    type Hasher = DefaultHasher;
+
+    ghost build_hasher = { λ s. sip.write sip.initial (le_bytes 8 s.seed) };
+
+    fn build_hasher(&self) -> DefaultHasher {
+        let mut hasher = DefaultHasher::new();
+        hasher.write_u64(self.seed);
+        hasher
+    }
+}
