@@ -5,3 +5,5 @@ pub mod OrderSteps
 pub mod Flwors
 pub mod TakingIn
 pub mod Driving
+pub mod CameOut
+pub mod Gathered

@@ -24,7 +24,7 @@ use Rattle.clause_stages.specs.Laws.{ClausesTakeIn}
 use Rattle.clause_stages.proofs.Marking.{meant}
 use Rattle.clause_stages.proofs.Clauses.{both, clause_meant}
 
-module _ {B K : Type 0} (inner : Inner) (env : Environment) (last_step : ℕ → TupleStage B K) (at clause : ℕ) (counts : (ts : List Tuple) → (last_step at).into at ts ≡ length ts) where
+module _ {B K : Type 0} (inner : Inner) (env : Environment) (last_step : ℕ → TupleStage B K) (at clause : ℕ) (counts : clause ≡ at → (ts : List Tuple) → (last_step at).into at ts ≡ length ts) where
   abbrev from : ℕ → PlainClauses Slot Target SeqType → TupleStage B K
   from number cs = clauses_stage inner number cs env last_step
 
@@ -51,12 +51,12 @@ module _ {B K : Type 0} (inner : Inner) (env : Environment) (last_step : ℕ →
       (sym (clause_meant K inner number stream c env ts n))
       (taken_next number (with_slots stream c) cs own lt ((each_splits K number (tuples_at inner c env 0)).left ts) clear (λ ys cl. ih ys lt cl))
 
-  taken : (number : ℕ) (stream : List Slot) (cs : PlainClauses Slot Target SeqType) (ts : List Tuple) → are_narrow cs ≡ true → number + how_many cs ≡ at → number ≤ clause → clause ≤ at
+  pub taken : (number : ℕ) (stream : List Slot) (cs : PlainClauses Slot Target SeqType) (ts : List Tuple) → are_narrow cs ≡ true → number + how_many cs ≡ at → number ≤ clause → clause ≤ at
       → ClearBelow clause ((from number cs).run ts) → TakesSoMany (taken_in inner number stream cs env clause ts) ((from number cs).into clause ts)
   taken number stream p.no_clauses ts n e le up clear =
       let x : at ≡ number = omega arith in
       let y : at ≡ clause = omega arith in
-      subst (λ (k : ℕ). (last_step k).into clause ts ≡ length ts) x (subst (λ (k : ℕ). (last_step at).into k ts ≡ length ts) y (counts ts))
+      subst (λ (k : ℕ). (last_step k).into clause ts ≡ length ts) x (subst (λ (k : ℕ). (last_step at).into k ts ≡ length ts) y (counts (sym y) ts))
   taken number stream (p.more_clauses c cs) ts n e le up clear =
       let w = both (is_narrow c) (are_narrow cs) n in
       taken_case number stream c cs ts w.0 le clear

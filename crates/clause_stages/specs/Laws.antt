@@ -105,14 +105,14 @@ pub record FlworsAreStages (K : Type 0) : Type 0 where
       >>= flwor_from inner (number + how_many clauses + 1)
       (with_slots (and_slots stream clauses) c) rest body env)
 
--- a stage counts the tuples that clauses take in
+-- a stage counts the tuples that clauses take in, up to the first fault; and those that the end takes
+-- in, where its step does
 abbrev pub ClausesTakeIn : (B K : Type 0) → Type 0
 ClausesTakeIn B K = (inner : Inner) (number : ℕ) (stream : List Slot)
     (clauses : PlainClauses Slot Target SeqType) (env : Environment)
     (last_step : ℕ → TupleStage B K) (clause : ℕ) (tuples : List Tuple)
     → are_narrow clauses ≡ true → number ≤ clause → clause ≤ number + how_many clauses
-    →
-    ((tuples : List Tuple)
+    → (clause ≡ number + how_many clauses → (tuples : List Tuple)
     → (last_step (number + how_many clauses)).into (number + how_many clauses) tuples
     ≡ length tuples)
     → ClearBelow clause ((clauses_stage inner number clauses env last_step).run tuples)

@@ -3,3 +3,5 @@ pub mod Ends
 pub mod Values
 pub mod Drivers
 pub mod Laws
+pub mod Came
+pub mod Results

@@ -7,7 +7,9 @@
 //! out of a stage, `C` its result, `K` the keys of an order, and `L` a line.
 #![tactic(auto)]
 
+ghost use Rattle.clause_stages.specs.Came.{RunsTell};
 ghost use Rattle.clause_stages.specs.Drivers.{DriversAreStages};
+ghost use Rattle.clause_stages.specs.Results.{PiecesGiveValues};
 ghost use Rattle.clause_stages.specs.Laws.{ClausesAreStages, EndsAreSteps, OrdersAreSteps, FlworsAreStages, ClausesTakeIn};
 
 /// What narrow clauses mean, and any end behind them, is what the stage of these clauses makes of the
@@ -40,4 +42,17 @@ pub fn clauses_take_in<B, K>()
 /// the step before it. So is the source alone.
 pub fn drivers_are_stages<L, B, C, K>()
     ensures { DriversAreStages L B C K }
+{}
+
+/// Where what is known of a run of narrow clauses tells of tuples in the words of stages, it does in
+/// those of the meaning: all that comes out, or the first fault with its clause and tuple, and how
+/// many tuples each clause takes in.
+pub fn runs_tell()
+    ensures { RunsTell }
+{}
+
+/// What is gathered of the outcomes of pieces, at limits that are enough, is what narrow clauses with
+/// an end behind them mean, or a `for` over lines, or lines alone.
+pub fn pieces_give_values<L, B, C, K>()
+    ensures { PiecesGiveValues L B C K }
 {}
