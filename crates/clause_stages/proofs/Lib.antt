@@ -7,3 +7,4 @@ pub mod TakingIn
 pub mod Driving
 pub mod CameOut
 pub mod Gathered
+pub mod Reading

@@ -1,5 +1,5 @@
--- What comes out of narrow clauses, be it tuples or the items of `return`, and what is told of a run
--- of them at a limit.
+-- What comes out of narrow clauses, be it tuples or the items of `return`, and what is told of a
+-- run of them at a limit.
 use Rattle.std.specs.Prelude.{◌≡◌, ℕ, ◌+◌, ◌<◌, ◌≤◌, true, List, [], ◌++◌, Option, Some, None, Ok, Err}
 use Rattle.item_tree.specs.Datum.{Datum}
 use Rattle.item_tree.specs.declared.fault.Fault.{Fault}
@@ -102,8 +102,8 @@ TellsOf last limit meant (known (Err e)) = (e.step < limit) × (meant ≡ Err (m
 TellsOf last limit meant (clear l) = (l ≡ limit) × (limit ≤ last) × CleanBefore limit meant
 
 -- What is told of a run of the clauses below a limit: all that comes out; or the first fault, which
--- is in a clause below the limit; or that no clause below it faults. And how many tuples each clause
--- takes in, up to the limit or the clause of the fault.
+-- is in a clause below the limit; or that no clause below it faults. And how many tuples each
+-- clause takes in, up to the limit or the clause of the fault.
 pub record Runs (inner : Inner) (number : ℕ) (stream : List Slot)
     (clauses : PlainClauses Slot Target SeqType) (body : Option BoundTree) (env : Environment)
     (last limit : ℕ) (tuples : List Tuple) (g : SoFar Came Seen Fault) : Type 0 where

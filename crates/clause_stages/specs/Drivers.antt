@@ -43,7 +43,8 @@ abbrev pub driven_stage : {L B K : Type 0} → ℕ → (L → OrFault Datum) →
 driven_stage number read variable t at tuple rest =
     driver number (placed_item read) (driver (number + 1) (item_tuple variable t at tuple) rest)
 
--- a fault of reading leaves the `for` of this number, as one of binding does; both name its one tuple
+-- a fault of reading leaves the `for` of this number, as one of binding does; both name its one
+-- tuple
 abbrev pub driver_marked : {K : Type 0} → ℕ → Met K Fault → Fault
 driver_marked number e = record (e.fault) {
   spot = Some (record {

@@ -76,7 +76,8 @@ abbrev pub column_fault : List ℕ → Option ℕ → Option Fault
 column_fault places None = None
 column_fault places (Some column) = Some (fault_at XPTY0004 (get_or places column 0))
 
--- the fault of keys that clash in class with keys before them, at the place of the first such column
+-- the fault of keys that clash in class with keys before them, at the place of the first such
+-- column
 abbrev pub order_clash : PlainOrderKeys Slot Target SeqType → List KeyList → KeyList → Option Fault
 order_clash keys before found = column_fault (column_places keys) (clash_column before found)
 

@@ -79,8 +79,8 @@ pub record OrdersAreSteps : Type 0 where
       → Falls number number [] (in_order number (order_clash keys))
       (orders_step inner keys env number)
 
--- A FLWOR of narrow clauses is a stage that `return` ends. Where a gathered clause stands in it, what
--- comes of the clauses up to that one goes on into the clauses behind it.
+-- A FLWOR of narrow clauses is a stage that `return` ends. Where a gathered clause stands in it,
+-- what comes of the clauses up to that one goes on into the clauses behind it.
 pub record FlworsAreStages (K : Type 0) : Type 0 where
   pub means : (inner : Inner) (number : ℕ) (stream : List Slot)
       (clauses : PlainClauses Slot Target SeqType) (body : BoundTree) (env : Environment)
@@ -105,8 +105,8 @@ pub record FlworsAreStages (K : Type 0) : Type 0 where
       >>= flwor_from inner (number + how_many clauses + 1)
       (with_slots (and_slots stream clauses) c) rest body env)
 
--- a stage counts the tuples that clauses take in, up to the first fault; and those that the end takes
--- in, where its step does
+-- a stage counts the tuples that clauses take in, up to the first fault; and those that the end
+-- takes in, where its step does
 abbrev pub ClausesTakeIn : (B K : Type 0) → Type 0
 ClausesTakeIn B K = (inner : Inner) (number : ℕ) (stream : List Slot)
     (clauses : PlainClauses Slot Target SeqType) (env : Environment)

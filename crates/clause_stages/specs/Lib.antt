@@ -5,3 +5,4 @@ pub mod Drivers
 pub mod Laws
 pub mod Came
 pub mod Results
+pub mod InputLines

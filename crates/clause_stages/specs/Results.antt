@@ -32,9 +32,9 @@ pub record AreOutcomes {A B K : Type 0} (first last : ℕ) (s : Stage A B K Faul
   pub enough : AllEnough step_told (last + 1) ds
 
 -- What is gathered of the outcomes of pieces is what is meant: by narrow clauses and an end behind
--- them, where the pieces are of their tuples; by a `for` over lines, and what is behind it, where the
--- pieces are of these lines; and by lines alone. What is kept of what comes out is enough where all
--- that is finished depends on it.
+-- them, where the pieces are of their tuples; by a `for` over lines, and what is behind it, where
+-- the pieces are of these lines; and by lines alone. What is kept of what comes out is enough where
+-- all that is finished depends on it.
 pub record PiecesGiveValues (L B C K : Type 0) : Type 0 where
   pub clauses : (inner : Inner) (number last : ℕ) (stream : List Slot)
       (clauses : PlainClauses Slot Target SeqType) (env : Environment) (value : EndValue C)

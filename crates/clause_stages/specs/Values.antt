@@ -26,8 +26,8 @@ and_clauses (p.more_clauses c cs) ds = p.more_clauses c (and_clauses cs ds)
 abbrev pub EndValue : Type 0 → Type 0
 EndValue C = ℕ → List Slot → List Tuple → OrFault C
 
--- the clauses from this number on, each on the whole list of tuples that the one before it gives, and
--- behind them an end
+-- the clauses from this number on, each on the whole list of tuples that the one before it gives,
+-- and behind them an end
 abbrev pub behind_clauses : {C : Type 0} → Inner → ℕ → List Slot → PlainClauses Slot Target SeqType
     → Environment → EndValue C → List Tuple → OrFault C
 behind_clauses inner number stream p.no_clauses env value tuples = value number stream tuples

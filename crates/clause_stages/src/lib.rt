@@ -9,6 +9,7 @@
 
 ghost use Rattle.clause_stages.specs.Came.{RunsTell};
 ghost use Rattle.clause_stages.specs.Drivers.{DriversAreStages};
+ghost use Rattle.clause_stages.specs.InputLines.{InputsAreLines};
 ghost use Rattle.clause_stages.specs.Results.{PiecesGiveValues};
 ghost use Rattle.clause_stages.specs.Laws.{ClausesAreStages, EndsAreSteps, OrdersAreSteps, FlworsAreStages, ClausesTakeIn};
 
@@ -55,4 +56,9 @@ pub fn runs_tell()
 /// an end behind them mean, or a `for` over lines, or lines alone.
 pub fn pieces_give_values<L, B, C, K>()
     ensures { PiecesGiveValues L B C K }
+{}
+
+/// What `json-lines` gives of inputs that are there is the items of the lines of their files in order.
+pub fn inputs_are_lines()
+    ensures { InputsAreLines }
 {}

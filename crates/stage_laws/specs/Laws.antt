@@ -21,8 +21,8 @@ pub record Follows {B K F : Type 0} (last : ℕ) (follow : Follow B K F) : Type 
   pub clash : (xs ys : B) (e : Met K F) → follow xs (Ok ys) ≡ Err e → e.step ≡ last
 
 -- A stage with steps from `first` to `last` falls into pieces: what it makes of one list behind
--- another is said by what it makes of each, where `follow` is what its end makes of the two. It makes
--- `empty` of no tuple.
+-- another is said by what it makes of each, where `follow` is what its end makes of the two. It
+-- makes `empty` of no tuple.
 pub record Falls {A B K F : Type 0} (first last : ℕ) (empty : B) (follow : Follow B K F)
     (s : Stage A B K F) : Type 0 where
   pub none : s.run [] ≡ Ok empty
@@ -49,8 +49,8 @@ reach last (known (Ok ys)) = last
 reach last (known (Err e)) = e.step
 reach last (clear l) = l
 
--- What is known tells of a list: it is so, and the numbers of tuples that the steps from `first` up to
--- its reach took in are right.
+-- What is known tells of a list: it is so, and the numbers of tuples that the steps from `first` up
+-- to its reach took in are right.
 pub record Tells {A B K F : Type 0} (first last : ℕ) (s : Stage A B K F) (xs : List A)
     (g : SoFar B K F) : Type 0 where
   pub is : IsTrueOf last g.what (s.run xs)
@@ -108,9 +108,9 @@ pub record Gathers {A B K F : Type 0} (first last : ℕ) (empty : B) (follow : F
 
 -- ---- the laws, for lists and faults of any kind
 
--- Which stages fall into pieces: one without steps; an order step, where keys that clash still clash
--- behind more keys; a narrow step or one of a driver, where the stage behind it does; and one of which
--- something else is kept that is put together from what is kept of parts.
+-- Which stages fall into pieces: one without steps; an order step, where keys that clash still
+-- clash behind more keys; a narrow step or one of a driver, where the stage behind it does; and one
+-- of which something else is kept that is put together from what is kept of parts.
 pub record StagesFallIntoPieces (A M B W K F : Type 0) : Type 0 where
   pub ended : (first last : ℕ) → Falls {A = A} {K = K} {F = F} first last [] appended ended
   pub ordered : (number : ℕ) (keys : A → Result K F) (clash : List K → K → Option F)

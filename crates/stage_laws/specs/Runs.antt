@@ -1,9 +1,9 @@
 -- What one step makes of a whole list, and how a fault names where it was met.
 use Rattle.std.specs.Prelude.{ℕ, ◌+◌, List, [], ◌∷◌, ◌++◌, Option, Some, None, Result, Ok, Err}
 
--- A fault as a stage meets it: the number of the step that it leaves, the place of the tuple, from 1,
--- in the list that this step takes in, and the keys that an order step has seen up to there. At every
--- other step nothing was seen.
+-- A fault as a stage meets it: the number of the step that it leaves, the place of the tuple, from
+-- 1, in the list that this step takes in, and the keys that an order step has seen up to there. At
+-- every other step nothing was seen.
 pub record Met (K F : Type 0) : Type 0 where
   pub step : ℕ
   pub tuple : ℕ
@@ -66,8 +66,9 @@ with_keys step n (Err fault) rest =
     Err (record { step = step; tuple = n; fault = fault; seen = [] })
 with_keys step n (Ok r) rest = rest r
 
--- Each tuple with its keys, where `before` are those of the tuples in front; or the first tuple that
--- faults, by its keys or since they clash with those before them. The first tuple's place is `n`.
+-- Each tuple with its keys, where `before` are those of the tuples in front; or the first tuple
+-- that faults, by its keys or since they clash with those before them. The first tuple's place is
+-- `n`.
 abbrev pub keyed_from : {A K F : Type 0} → (step : ℕ) → (A → Result K F) → (List K → K → Option F)
     → (before : List K) → (n : ℕ) → List A → Result (List (K × A)) (Met K F)
 keyed_from step keys clash before n [] = Ok []

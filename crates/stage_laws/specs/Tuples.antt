@@ -1,5 +1,5 @@
--- One tuple at a time: each goes through all steps before the next one does, and from the first fault
--- on only the steps below it are run.
+-- One tuple at a time: each goes through all steps before the next one does, and from the first
+-- fault on only the steps below it are run.
 use Rattle.std.specs.Prelude.{◌≡◌, ℕ, ◌+◌, ◌==◌, ◌<◌, ◌≤◌, Bool, if◌then◌else◌, List, [], ◌∷◌, ◌++◌, length, Result, Ok, Err}
 use Rattle.stage_laws.specs.Runs.{Met, joined, each_from, each_read}
 use Rattle.stage_laws.specs.Stages.{Stage, ended, narrow, driver}
@@ -41,8 +41,8 @@ opening last limit empty = record {
   into = λ c. 0;
 }
 
--- what may be known in a run that began at this limit: all, a fault below the limit, or that no step
--- below it faults
+-- what may be known in a run that began at this limit: all, a fault below the limit, or that no
+-- step below it faults
 abbrev pub Began : {B K F : Type 0} → (last limit : ℕ) → Known B K F → Type 0
 Began last limit (known (Ok ys)) = limit ≡ last + 1
 Began last limit (known (Err e)) = e.step < limit
@@ -60,7 +60,8 @@ as_told g = record { outcome = outcome_of g.what; into = g.into }
 
 -- A narrow step takes in one more tuple. Either the step is not run any more, and the tuple is only
 -- counted (`held`); or the tuple faults (`faults`); or what it gives goes through the steps behind,
--- for which the same state tells (`down`), and when it has, the state tells of this step too (`up`).
+-- for which the same state tells (`down`), and when it has, the state tells of this step too
+-- (`up`).
 pub record TakesOne {A M B K F : Type 0} (number last : ℕ) (f : A → Result (List M) F)
     (rest : Stage M B K F) : Type 0 where
   pub held : (xs : List A) (x : A) (g : SoFar B K F) → Tells number last (narrow number f rest) xs g
@@ -80,8 +81,8 @@ pub record TakesOne {A M B K F : Type 0} (number last : ℕ) (f : A → Result (
       → Tells (number + 1) last rest (ys ++ zs) g
       → Tells number last (narrow number f rest) (xs ++ x ∷ []) g
 
--- A step of a driver takes in a list of lines. It gives a list, for which the same state tells, or a
--- fault; no step behind it has run then. Lines that come later go on.
+-- A step of a driver takes in a list of lines. It gives a list, for which the same state tells, or
+-- a fault; no step behind it has run then. Lines that come later go on.
 pub record TakesLines {A M B K F : Type 0} (number last : ℕ) (f : A → Result (List M) F)
     (rest : Stage M B K F) : Type 0 where
   pub reads : (xs : List A) (ys : List M) (g : SoFar B K F) → each_read {K = K} number f xs ≡ Ok ys
