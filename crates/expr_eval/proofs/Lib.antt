@@ -14,6 +14,7 @@ mod Members
 mod ObjectLemmas
 mod Ordered
 mod Ranges
+mod SearchSteps
 mod Stages
 mod Tables
 mod TestSteps

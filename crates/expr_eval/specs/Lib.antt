@@ -11,3 +11,4 @@ pub mod Ordering
 pub mod Parts
 pub mod Positions
 pub mod Quantifiers
+pub mod Searches

@@ -29,6 +29,7 @@ mod paths;
 mod positions;
 mod quantified;
 mod results;
+mod searches;
 mod sequences;
 mod tries;
 mod tuples;
