@@ -6,3 +6,6 @@ mod Locals
 mod Placing
 mod Rows
 pub mod Walking
+mod Besides
+mod Seen
+mod NamesRead

@@ -1,7 +1,8 @@
 -- Laws of plans.
-use Rattle.std.specs.Prelude.{◌≡◌, ℕ, ◌+◌, ◌-◌, true, false, Option, None, Some, is_some, List, [], ◌∷◌, ◌++◌, length, map}
-use Rattle.std.specs.List.{All, flat_map, range_with_len}
+use Rattle.std.specs.Prelude.{◌≡◌, ℕ, ◌+◌, ◌-◌, Bool, true, false, ◌||◌, Option, None, Some, is_some, List, [], ◌∷◌, ◌++◌, length, map}
+use Rattle.std.specs.List.{All, flat_map, list_any, range_with_len}
 use Rattle.std.specs.List.Sorted.{IsPermutation}
+use Rattle.std.specs.Str.{bytes_eq}
 use Rattle.seq_types.specs.declared.types.SeqType.{SeqType}
 use Rattle.query_tree.specs.declared.bound.Slot.{Slot}
 use Rattle.query_tree.specs.declared.bound.Target.{Target}
@@ -10,6 +11,8 @@ use Rattle.query_tree.specs.declared.names.Placed.{Placed}
 use Rattle.query_tree.specs.Plain as p
 use Rattle.query_tree.specs.Plain.{PlainClause, PlainClauses, Trees}
 use Rattle.query_tree.specs.Bound.{BoundTree}
+use Rattle.query_tree.specs.Compiled.{BoundTrees}
+use Rattle.query_tree.specs.Inputs.{input_names}
 use Rattle.query_tree.specs.Subtrees.{subtrees}
 use Rattle.mode_planner.specs.declared.plan.End.{End}
 use Rattle.mode_planner.specs.declared.plan.Mode.TheVariants.{Local}
@@ -17,7 +20,8 @@ use Rattle.mode_planner.specs.declared.plan.Stage.{Stage}
 use Rattle.mode_planner.specs.Spine.{passed, leaves, handlers}
 use Rattle.mode_planner.specs.Drivers.{DriverPlan, is_let, clauses_driver}
 use Rattle.mode_planner.specs.Clauses.{clause_end}
-use Rattle.mode_planner.specs.Plans.{Driven, driven, leaf_plan}
+use Rattle.mode_planner.specs.Plans.{Driven, LeafPlan, driven, leaf_plan}
+use Rattle.mode_planner.specs.Beside.{drivers, input_calls, calls_beside, names_beside}
 
 -- ---- where the expressions of a body stand
 
@@ -100,3 +104,19 @@ pub record IsLocal (t : BoundTree) : Type 0 where
 
 abbrev pub LocalPlansStayLocal : Type 0
 LocalPlansStayLocal = (t : BoundTree) → IsLocal t
+
+-- ---- which inputs are read beside the drivers
+
+abbrev pub is_among : List (List ℕ) → List ℕ → Bool
+is_among names name = list_any (λ n. bytes_eq n name) names
+
+abbrev pub one_reads : List DriverPlan → List ℕ → Bool
+one_reads calls name = list_any (λ c. is_among c.names name) calls
+
+-- Each input that a query may read is read by a driver or beside the drivers, and beside them just
+-- those are read that a call reads which is no driver.
+pub record NamesAreRead (leaves : List LeafPlan) (m : BoundTrees) : Type 0 where
+  pub all : (name : List ℕ) → is_among (input_names m) name ≡ true
+      → (one_reads (drivers leaves) name || is_among (names_beside leaves m) name) ≡ true
+  pub beside : (name : List ℕ) → is_among (names_beside leaves m) name
+      ≡ one_reads (calls_beside (drivers leaves) (input_calls m)) name

@@ -1,3 +1,4 @@
 -- How the code sees plans.
 pub mod Views
 pub mod Walk
+pub mod Calls

@@ -28,9 +28,9 @@ pub(crate) fn target_driver<'q>(place: u32, target: &'q Target) -> Option<Driver
     }
 }
 
-// The driver that an expression is.
+/// The driver that an expression is.
 #[tactic(auto, using(query_tree::proofs::Layers::layers))]
-fn call_driver<'q>(tree: &'q BoundExpr) -> Option<Driver<'q>>
+pub(crate) fn call_driver<'q>(tree: &'q BoundExpr) -> Option<Driver<'q>>
     ensures { option_map driver_of result ≡ call_driver (bound_tree tree.now) }
 {
     match &tree.kind {

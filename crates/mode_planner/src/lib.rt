@@ -1,6 +1,7 @@
 //! The plan of a query: which parts of its body run over pieces of inputs, and how.
 #![tactic(auto)]
 
+mod beside;
 mod clauses;
 mod driven;
 mod drivers;
@@ -11,5 +12,6 @@ mod planning;
 mod spine;
 mod words;
 
+pub use beside::names_beside_drivers;
 pub use plan::{Driver, End, Label, Leaf, Line, Mode, Plan, Stage};
 pub use planning::make_plan;

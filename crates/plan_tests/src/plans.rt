@@ -1,7 +1,7 @@
-//! Queries with their plans.
+//! Queries with their plans, and with the inputs that are read beside the drivers.
 
-use crate::printed::plan_text;
-use mode_planner::make_plan;
+use crate::printed::{names_text, plan_text};
+use mode_planner::{make_plan, names_beside_drivers};
 use query_lexer::tokens;
 use query_parser::parse;
 use query_tree::{Compiled, Query, discard};
@@ -9,29 +9,45 @@ use static_rules::compile;
 use std::alloc::Global;
 use std::test::Fail;
 
-fn text_of_tree(alloc: Global, text: &str, query: &Compiled, local: bool) -> Result<String, Fail> {
-    let plan = make_plan(alloc, query.module(), local)?;
-    plan_text(alloc, text, &plan)
+// What is shown of a query.
+#[derive(Clone, Copy)]
+enum Shown {
+    Plan { local: bool },
+    NamesBeside,
 }
 
-fn text_of_query(alloc: Global, text: &str, query: &Query, local: bool) -> Result<String, Fail> {
+fn text_of_tree(alloc: Global, text: &str, query: &Compiled, shown: Shown) -> Result<String, Fail> {
+    match shown {
+        Shown::Plan { local } => {
+            let plan = make_plan(alloc, query.module(), local)?;
+            plan_text(alloc, text, &plan)
+        }
+        Shown::NamesBeside => {
+            let plan = make_plan(alloc, query.module(), false)?;
+            let names = names_beside_drivers(alloc, query.module(), &plan)?;
+            names_text(alloc, &names)
+        }
+    }
+}
+
+fn text_of_query(alloc: Global, text: &str, query: &Query, shown: Shown) -> Result<String, Fail> {
     let Ok(compiled) = compile(alloc, query) else {
         return Err(Fail::from("refused"));
     };
-    let shown = text_of_tree(alloc, text, &compiled, local);
+    let shown = text_of_tree(alloc, text, &compiled, shown);
     discard(compiled);
     shown
 }
 
-// The plan of a query that is accepted.
-fn planned(alloc: Global, text: &str, local: bool) -> Result<String, Fail> {
+// What is shown of a query that is accepted.
+fn planned(alloc: Global, text: &str, shown: Shown) -> Result<String, Fail> {
     let Ok(found) = tokens(alloc, text) else {
         return Err(Fail::from("no tokens"));
     };
     let Ok(query) = parse(alloc, text, &found) else {
         return Err(Fail::from("no query"));
     };
-    let shown = text_of_query(alloc, text, &query, local);
+    let shown = text_of_query(alloc, text, &query, shown);
     discard(query);
     shown
 }
@@ -108,7 +124,7 @@ fn plans_queries(rt: HostRuntime) -> Result<(), Fail> {
         ),
     ];
     for (query, want) in rows {
-        let text = planned(rt.alloc(), query, false)?;
+        let text = planned(rt.alloc(), query, Shown::Plan { local: false })?;
         assert_eq!(rt; text.as_str(), want);
     }
     Ok(())
@@ -127,7 +143,38 @@ fn plans_queries_without_pieces(rt: HostRuntime) -> Result<(), Fail> {
         ),
     ];
     for (query, want) in rows {
-        let text = planned(rt.alloc(), query, true)?;
+        let text = planned(rt.alloc(), query, Shown::Plan { local: true })?;
+        assert_eq!(rt; text.as_str(), want);
+    }
+    Ok(())
+}
+
+#[test]
+fn finds_inputs_beside_drivers(rt: HostRuntime) -> Result<(), Fail> {
+    let rows = [
+        ("1, json-lines(\"a\"), for $x in (1, 2) return $x", ""),
+        ("json-lines(\"a\"), [json-lines(\"a\")]", "a"),
+        (
+            "count(json-lines(\"a\")), [json-lines(\"b\"), json-lines(\"c\", \"b\")], json-lines(\"c\")",
+            "b c",
+        ),
+        (
+            "declare variable $v := json-lines(\"v\"); \
+             for $x in json-lines(\"a\") where $x = json-lines(\"w\") return $v",
+            "v w",
+        ),
+        (
+            "try { json-lines(\"a\") } catch * { json-lines(\"b\") }, json-lines(\"c\", \"d\")",
+            "b",
+        ),
+        ("for $x allowing empty in json-lines(\"a\") return $x", "a"),
+        (
+            "declare function f() { json-lines(\"f\") }; sum((json-lines(\"s\"))), f()",
+            "f s",
+        ),
+    ];
+    for (query, want) in rows {
+        let text = planned(rt.alloc(), query, Shown::NamesBeside)?;
         assert_eq!(rt; text.as_str(), want);
     }
     Ok(())

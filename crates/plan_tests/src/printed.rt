@@ -1,6 +1,7 @@
 //! Plans as text, for the tests: a line for each part, and a stroke after it; after the lines of a
 //! leaf that has a driver stand the driver and the stages, in brackets.
 
+use item_tree::Str;
 use mode_planner::{Driver, End, Leaf, Line, Plan, Stage};
 use std::alloc::Global;
 use std::test::Fail;
@@ -89,6 +90,18 @@ pub(crate) fn plan_text(alloc: Global, query: &str, plan: &Plan<'_>) -> Result<S
     let mut out = String::new(alloc);
     for leaf in &plan.leaves {
         push_leaf(alloc, &mut out, query, leaf)?;
+    }
+    Ok(out)
+}
+
+/// Names with a blank between them.
+pub(crate) fn names_text(alloc: Global, names: &[Str]) -> Result<String, Fail> {
+    let mut out = String::new(alloc);
+    for name in names {
+        if !out.is_empty() {
+            out.push(' ')?;
+        }
+        out.push_str(name.as_str())?;
     }
     Ok(out)
 }

@@ -1,0 +1,2 @@
+-- How the contracts of private functions see the code.
+pub mod Behind
