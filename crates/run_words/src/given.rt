@@ -76,7 +76,7 @@ fn marked(name: Name, seen: Seen) -> Seen
     }
 }
 
-fn is_number_in(low: u32, high: u32, text: &str) -> bool
+pub(crate) fn is_number_in(low: u32, high: u32, text: &str) -> bool
     requires { high < 2 ^ 32 }
     ensures { result ≡ is_number_in low high text.now }
 {
@@ -119,8 +119,8 @@ fn exactly(text: &str, word: &str, then: Option<(Phase, Seen)>) -> Option<(Phase
     if word == text { then } else { None }
 }
 
-// What follows this beginning of the word.
-fn rest_of<'a>(front: &str, word: &'a str) -> Option<&'a str>
+/// What follows this beginning of the word.
+pub(crate) fn rest_of<'a>(front: &str, word: &'a str) -> Option<&'a str>
     ensures { option_map (λ s. s.now) result ≡ after front.now word.now }
 {
     word.strip_prefix(front)
@@ -205,7 +205,7 @@ fn argument_met(verb: Verb, phase: Phase, word: &str, seen: Seen) -> Option<(Pha
     taken(phase, next_of(verb, seen.number), word, seen)
 }
 
-fn is_dashed(word: &str) -> bool
+pub(crate) fn is_dashed(word: &str) -> bool
     ensures { result ≡ is_dashed word.now }
 {
     match word.as_bytes().first() {
@@ -266,7 +266,7 @@ fn read_rest(verb: Verb, words: &[Str]) -> Option<(Phase, Seen)>
     Some((phase, seen))
 }
 
-fn is_settled(phase: Phase) -> bool
+pub(crate) fn is_settled(phase: Phase) -> bool
     ensures { result ≡ is_settled phase }
 {
     match phase {

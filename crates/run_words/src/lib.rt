@@ -7,9 +7,11 @@
 mod command;
 mod given;
 pub mod laws;
+mod parts;
 mod read;
 mod table;
 mod task;
 
+pub use parts::{begins_parts, read_parts};
 pub use read::read_words;
-pub use task::{Task, WordFault};
+pub use task::{PartsTask, Task, WordFault};

@@ -18,7 +18,7 @@ use clap::ArgMatches;
 use item_tree::{NoMemory, Str};
 use std::alloc::Global;
 
-fn number_or(default: u32, text: Option<&str>) -> u32
+pub(crate) fn number_or(default: u32, text: Option<&str>) -> u32
     requires { IsNumberText (option_map (λ s. s.now) text) }
     ensures { result ≡ number_or default (option_map (λ s. s.now) text.entry) }
 {

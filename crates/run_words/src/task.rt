@@ -39,6 +39,19 @@ pub enum Task {
     },
 }
 
+/// What a command line asks for whose result is written as numbered parts.
+#[derive(Debug, Drop)]
+pub struct PartsTask {
+    /// The name of the query's file.
+    pub query: Str,
+    /// How many parts there are, from 1 to 1,000.
+    pub count: u32,
+    /// As for a run.
+    pub workers: u32,
+    /// As for a run.
+    pub size: u64,
+}
+
 /// Why words give no task.
 #[derive(Clone, Copy, Debug, PartialEq, Eq)]
 pub enum WordFault {
