@@ -1,0 +1,5 @@
+mod Reading
+mod Starts
+mod HeadRows
+mod LoadingRows
+mod LoadedFiles

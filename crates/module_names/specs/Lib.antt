@@ -1,0 +1,5 @@
+pub mod Heads
+pub mod Places
+pub mod Loading
+pub mod Loaded
+pub mod inside

@@ -1,0 +1,2 @@
+-- How the code goes about it.
+pub mod Next
