@@ -94,10 +94,10 @@ rebound inner q test env o os frame v =
     let slot = o.variable.name in
     let later = with_value frame slot v in
     ap (λ t. unless_decided q t (searched inner q test env os (with_value later slot o.before)))
-        (same_tests q (passes inner q o.variable o.type o.behind test (in_tuple env later)) (passes inner q o.variable o.type o.behind test (in_tuple env frame))
-            (λ x. same_after (typed o.variable.place o.type (x ∷ [])) (λ value. quantified_over inner q o.behind test (in_tuple env (with_value later slot value))) (λ value. quantified_over inner q o.behind test (in_tuple env (with_value frame slot value)))
-                (λ value. ap (λ t. quantified_over inner q o.behind test (in_tuple env t)) (written_twice frame slot v value)))
-            o.left)
+    (same_tests q (passes inner q o.variable o.type o.behind test (in_tuple env later)) (passes inner q o.variable o.type o.behind test (in_tuple env frame))
+    (λ x. same_after (typed o.variable.place o.type (x ∷ [])) (λ value. quantified_over inner q o.behind test (in_tuple env (with_value later slot value))) (λ value. quantified_over inner q o.behind test (in_tuple env (with_value frame slot value)))
+    (λ value. ap (λ t. quantified_over inner q o.behind test (in_tuple env t)) (written_twice frame slot v value)))
+    o.left)
     ∙ ap (λ t. unless_decided q (quantified q (passes inner q o.variable o.type o.behind test (in_tuple env frame)) o.left) (searched inner q test env os t)) (written_twice frame slot v o.before)
 
 -- the same for its items, where the first one is taken from them
@@ -127,11 +127,14 @@ closed inner q test env o os frame h = by o.left h
   where
     f : Datum → OrFault Bool
     f = passes inner q o.variable o.type o.behind test (in_tuple env frame)
+
     rest : OrFault Bool
     rest = searched inner q test env os (with_value frame o.variable.name o.before)
+
     not_none : (r : Outcome) → (r >>= λ value. Ok (Some value)) ≡ Ok None → ⊥
     not_none (Ok v) e = cc
     not_none (Err fault) e = cc
+
     by : (left : List Datum) → value_first o.variable o.type left ≡ Ok None → unless_decided q (quantified q f left) rest ≡ rest
     by [] e = ap (λ t. unless_decided q t rest) (none_left q f) ∙ goes_by q rest
     by (x ∷ xs) e = absurd (not_none (typed o.variable.place o.type (x ∷ [])) e)
@@ -146,6 +149,7 @@ faulted inner q test env o os frame fault h = by o.left refl h
     its : (r : Outcome) → (r >>= λ value. Ok (Some value)) ≡ Err fault → r ≡ Err fault
     its (Ok v) e = cc
     its (Err other) e = cc
+
     by : (left : List Datum) → o.left ≡ left → value_first o.variable o.type left ≡ Err fault → searched inner q test env (o ∷ os) frame ≡ Err fault
     by [] is e = cc
     by (x ∷ xs) is e =
@@ -162,6 +166,7 @@ bound_next inner q test env o os frame value h = by o.left refl h
     its : (r : Outcome) → (r >>= λ v. Ok (Some v)) ≡ Ok (Some value) → r ≡ Ok value
     its (Ok v) e = cc
     its (Err other) e = cc
+
     by : (left : List Datum) → o.left ≡ left → value_first o.variable o.type left ≡ Ok (Some value) → searched inner q test env (o ∷ os) frame ≡ entered inner q o.behind test env (behind_first o ∷ os) (with_value frame o.variable.name value)
     by [] is e = cc
     by (x ∷ xs) is e =

@@ -1,14 +1,9 @@
 pub mod Arguments
 pub mod Entries
-pub mod Frames
 pub mod Functions
-pub mod Grouping
 pub mod Handlers
 pub mod Inputs
 pub mod Objects
-pub mod OneByOne
-pub mod Ordering
 pub mod Parts
-pub mod Positions
 pub mod Quantifiers
 pub mod Searches

@@ -4,18 +4,9 @@
 #![tactic(auto)]
 
 mod arrays;
-mod bindings;
-mod bound;
 mod calls;
-mod checks;
 mod choices;
-mod clauses;
-mod evaluation;
-mod flwor;
-mod frames;
-mod group;
-mod groups;
-mod keys;
+pub mod evaluation;
 mod kinds;
 mod leaves;
 mod lines;
@@ -24,16 +15,13 @@ mod makes;
 mod node;
 mod objects;
 mod operators;
-mod order;
 mod paths;
 mod positions;
 mod quantified;
-mod results;
 mod searches;
 mod sequences;
 mod tries;
-mod tuples;
 mod types;
 mod typeswitch;
 
-pub use evaluation::{eval, eval_globals, eval_query};
+pub use evaluation::{eval, eval_globals, eval_query, value};

@@ -11,8 +11,7 @@ ghost use Rattle.std.specs.Prelude.{[]};
 ghost use Rattle.expr_eval.specs.Quantifiers.{slot_value, opening, first_value, behind_first, RaisesNone};
 ghost use Rattle.expr_eval.specs.Searches.{open_of, innermost};
 
-use crate::checks::typed;
-use crate::results::nothing;
+use clause_eval::{nothing, typed};
 use item_tree::Item;
 use query_meaning::{EvalFault, Value};
 use query_tree::{Bind, BoundExpr, Slot, discard};
@@ -52,11 +51,7 @@ fn bound_item<'a>(bind: &BoundBind, x: &Item) -> Result<Value<'a>, EvalFault>
 }
 
 /// The value of a slot, once more.
-fn slot_again<'a>(
-    alloc: Global,
-    frame: &[Value<'a>],
-    slot: Slot,
-) -> Result<Value<'a>, EvalFault>
+fn slot_again<'a>(alloc: Global, frame: &[Value<'a>], slot: Slot) -> Result<Value<'a>, EvalFault>
     ensures { Gives items_of result (Ok (slot_value (tuple_of frame.now) slot)) }
 {
     match slot {
@@ -70,7 +65,7 @@ fn slot_again<'a>(
 
 /// Puts a value at a position of a list, if the list has it. It is generic, so that a check needs
 /// no proof of its own for each kind of value that is dropped.
-#[tactic(auto, using(crate::proofs::Members::sets))]
+#[tactic(auto, using(clause_eval::proofs::Members::sets))]
 fn put<T: Drop>(list: &mut Vec<T>, at: usize, value: T)
     ensures { list.new.items ≡ slice_set list.old.items at value }
 {
@@ -80,7 +75,7 @@ fn put<T: Drop>(list: &mut Vec<T>, at: usize, value: T)
 }
 
 /// Gives a slot of a frame this value.
-#[tactic(auto, using(crate::proofs::Members::sets))]
+#[tactic(auto, using(clause_eval::proofs::Members::sets))]
 fn write<'a>(frame: &mut Vec<Value<'a>>, slot: Slot, value: Value<'a>)
     ensures { tuple_of frame.new.items
         ≡ with_value (tuple_of frame.old.items) slot (items_of value.entry) }
@@ -164,7 +159,7 @@ impl<'b, 'a> Search<'b, 'a> {
             (innermost self.new.bindings.items ≡ open_of binding.entry ∷ innermost self.old.bindings.items) }
         ensures frame { OnOk result (tuple_of self.new.frame.items
             ≡ with_value (tuple_of self.old.frame.items) (open_of binding.entry).variable.name
-                (items_of value.entry)) }
+            (items_of value.entry)) }
         ensures fails { RaisesNone result }
     {
         let slot = binding.bind.variable.name;

@@ -24,7 +24,7 @@ pub returns-in_err-items-in-len1-up : goal.returns-in_err-items-in-len1-up
 returns-in_err-items-in-len1-up g c =
     let p = err_from_is_err_and c.from_residual-in_err-items-in-len1-up.result c.from_residual-in_err-items-in-len1-up.ensures.1 in
     rw (p.1, p.2) (fails_first (eval_in c.args.env.now) c.args.quantifier (bound_tree c.args.test.now) (environment_of c.args.env.now) c.args.binds.now _ c.bind-item.result (innermost c.args.search.now.bindings.items) _ c.deref-in-len1-up.result.now c.args.search.now.frame.items c.deref-in-len1-up.ensures.value
-        (first_is c.args.binds.now c.bind-item.result c.in-len1-up.len_at_least c.bind-item.is) c.in_err-items-in-len1-up.ensures)
+    (first_is c.args.binds.now c.bind-item.result c.in-len1-up.len_at_least c.bind-item.is) c.in_err-items-in-len1-up.ensures)
 
 pub returns-in_err-opens-in-len1-up : goal.returns-in_err-opens-in-len1-up
 returns-in_err-opens-in-len1-up g c =
@@ -34,4 +34,4 @@ returns-in_err-opens-in-len1-up g c =
 pub returns-in_ok-opens-in-len1-up : goal.returns-in_ok-opens-in-len1-up
 returns-in_ok-opens-in-len1-up g c =
     opens_first (eval_in c.args.env.now) c.args.quantifier (bound_tree c.args.test.now) (environment_of c.args.env.now) c.args.binds.now _ c.bind-item.result (innermost c.args.search.now.bindings.items) _ c.deref-in-len1-up.result.now c.args.search.now.frame.items _ _ c.deref-in-len1-up.ensures.value
-        (first_is c.args.binds.now c.bind-item.result c.in-len1-up.len_at_least c.bind-item.is) c.in_ok-items-in-len1-up.ensures c.in_ok-opens-in-len1-up.ensures.bindings c.in_ok-opens-in-len1-up.ensures.frame
+    (first_is c.args.binds.now c.bind-item.result c.in-len1-up.len_at_least c.bind-item.is) c.in_ok-items-in-len1-up.ensures c.in_ok-opens-in-len1-up.ensures.bindings c.in_ok-opens-in-len1-up.ensures.frame

@@ -7,4 +7,4 @@ pub returns : goal.returns
 unfolding environment_of
 returns g c =
     whole (eval_in c.args.env.now) c.args.quantifier (bound_binds c.args.binds.now) (bound_tree c.args.test.now) (environment_of c.args.env.now) c.new.result.items (tuple_of c.in_ok-frame.frame.items) c.enters-holds.result
-        c.new.ensures.items c.in_ok-frame.ensures c.enters-holds.ensures
+    c.new.ensures.items c.in_ok-frame.ensures c.enters-holds.ensures

@@ -13,9 +13,9 @@ returns-in-Err g c =
 pub returns-in-Ok-None : goal.returns-in-Ok-None
 returns-in-Ok-None g c =
     closes_search (eval_in c.args.env.now) c.args.quantifier (bound_tree c.args.test.now) (environment_of c.args.env.now) (open_of c.args.binding) (open_of c.next_value.new.self) (innermost c.args.search.now.bindings.items) _ (tuple_of c.args.search.now.frame.items) _
-        (c.in-Ok-None.ensures.gives ∙ ap (λ o. told (option_map items_of o)) c.in-Ok-None.field-0-is) c.in-Ok-None.ensures.left (ap innermost c.closes.ensures.bindings) c.closes.ensures.frame
+    (c.in-Ok-None.ensures.gives ∙ ap (λ o. told (option_map items_of o)) c.in-Ok-None.field-0-is) c.in-Ok-None.ensures.left (ap innermost c.closes.ensures.bindings) c.closes.ensures.frame
 
 pub returns-in_ok-binds-in-Ok-Some : goal.returns-in_ok-binds-in-Ok-Some
 returns-in_ok-binds-in-Ok-Some g c =
     binds_search (eval_in c.args.env.now) c.args.quantifier (bound_tree c.args.test.now) (environment_of c.args.env.now) (open_of c.args.binding) (open_of c.next_value.new.self) (innermost c.args.search.now.bindings.items) _ (tuple_of c.args.search.now.frame.items) _ (items_of c.in-Ok-Some.value) (bound_binds c.rest-rest.result.now) c.goes_in.result _
-        (c.in-Ok-Some.ensures.gives ∙ ap (λ o. told (option_map items_of o)) c.in-Ok-Some.field-0-is) c.in-Ok-Some.ensures.left c.rest-rest.ensures c.in_ok-binds-in-Ok-Some.ensures.bindings c.in_ok-binds-in-Ok-Some.ensures.frame c.goes_in.ensures
+    (c.in-Ok-Some.ensures.gives ∙ ap (λ o. told (option_map items_of o)) c.in-Ok-Some.field-0-is) c.in-Ok-Some.ensures.left c.rest-rest.ensures c.in_ok-binds-in-Ok-Some.ensures.bindings c.in_ok-binds-in-Ok-Some.ensures.frame c.goes_in.ensures

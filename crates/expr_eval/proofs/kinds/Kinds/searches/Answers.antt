@@ -9,7 +9,7 @@ pub returns-in-None : goal.returns-in-None
 returns-in-None g c =
     c.searching.invariant
     ∙ ends (eval_in c.args.env.now) c.args.quantifier (bound_tree c.args.test.now) (environment_of c.args.env.now) c.searching.search.bindings.items (tuple_of c.searching.search.frame.items) _
-        (sym c.searching.search.bindings.ok.0 ∙ c.in-None.ensures.cases.0) c.undecided.ensures
+    (sym c.searching.search.bindings.ok.0 ∙ c.in-None.ensures.cases.0) c.undecided.ensures
 
 pub returns-in_err-holds-in-Some : goal.returns-in_err-holds-in-Some
 returns-in_err-holds-in-Some g c =

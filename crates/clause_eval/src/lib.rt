@@ -1,0 +1,28 @@
+//! The clauses of a FLWOR over lists of tuples, and what all kinds of nodes share: each comes to
+//! exactly what the definitions of `query_meaning` say, over a function value that evaluates the
+//! expressions that stand in it.
+#![tactic(auto)]
+
+mod bindings;
+mod checks;
+mod clauses;
+mod evaluator;
+mod flwor;
+mod frames;
+mod group;
+mod groups;
+mod items;
+mod keys;
+mod order;
+mod results;
+mod tuples;
+mod variables;
+
+pub use checks::typed;
+pub use clauses::BoundClause;
+pub use evaluator::Evaluator;
+pub use frames::{again, new_frame, written};
+pub use items::{added, pushed, with_copies};
+pub use results::{nothing, one_truth, optional_item, optional_truth, truth_value};
+pub use tuples::{Frame, frame_again, number_value, with_slot};
+pub use variables::var;
