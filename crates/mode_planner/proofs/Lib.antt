@@ -7,5 +7,4 @@ mod Placing
 mod Rows
 pub mod Walking
 mod Besides
-mod Seen
 mod NamesRead

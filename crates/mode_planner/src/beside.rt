@@ -1,15 +1,11 @@
 //! The inputs that are read as a whole, beside the drivers.
 
-ghost use Rattle.std.specs.Prelude.{◌≡◌, [], ◌++◌, ℕ, List, map, option_map, IfOk, OnOk};
-ghost use Rattle.std.specs.Ordering.{nat_cmp};
-ghost use Rattle.std.specs.Cmp.Lexicographic.{slice_cmp};
-ghost use Rattle.std.specs.List.{list_any, filter_map};
+ghost use Rattle.std.specs.Prelude.{◌≡◌, ◌++◌, map, option_map, IfOk, OnOk};
+ghost use Rattle.std.specs.List.{filter_map};
 ghost use Rattle.std.specs.Option.{option_to_list};
-ghost use Rattle.std.specs.Str.{bytes_eq};
-ghost use Rattle.std.specs.BTreeSet.{contains};
 ghost use Rattle.query_tree.specs.BoundViews.{bound_tree};
 ghost use Rattle.query_tree.specs.Compiled.{bound_trees};
-ghost use Rattle.query_tree.specs.inside.Told.{with_name, with_names};
+ghost use Rattle.query_tree.specs.inside.Told.{with_names};
 ghost use Rattle.mode_planner.specs.Beside.{is_driver, drives, names_beside};
 ghost use Rattle.mode_planner.specs.inside.Calls.{tree_names};
 ghost use Rattle.mode_planner.specs.inside.Views.{driver_of, leaf_of};
@@ -17,70 +13,25 @@ ghost use Rattle.mode_planner.specs.inside.Views.{driver_of, leaf_of};
 use crate::drivers::call_driver;
 use crate::{Driver, Leaf, Plan};
 use item_tree::{NoMemory, Str};
-use query_tree::{BoundExpr, BoundModule};
-use query_walk::expressions;
+use query_tree::{BoundExpr, BoundModule, DistinctNames, expressions};
 use std::alloc::Global;
-use std::collections::BTreeSet;
 
-// Different names, in order of first appearance.
-#[derive(Drop)]
-struct Names {
-    found: Vec<Str>,
-    seen: BTreeSet<Str>,
-    ghost same: { (q : List ℕ)
-        → contains (slice_cmp nat_cmp) seen q ≡ list_any (λ n. bytes_eq n q) found.items },
-}
-
-impl Names {
-    fn new(alloc: Global) -> Names
-        ensures { result.found.items ≡ [] }
-    {
-        Names {
-            found: Vec::new(alloc),
-            seen: BTreeSet::new(alloc),
-        }
+// These names, and those of the call that an expression is, if it is none of these drivers.
+fn with_tree(
+    names: DistinctNames,
+    drivers: &[Driver<'_>],
+    tree: &BoundExpr,
+) -> Result<DistinctNames, NoMemory>
+    ensures { IfOk result (λ n. n.found.items ≡ with_names names.found.items
+        (tree_names (map driver_of drivers.now) (bound_tree tree.now))) }
+{
+    let Some(call) = call_driver(tree) else {
+        return Ok(names);
+    };
+    if drives(drivers, &call) {
+        return Ok(names);
     }
-
-    // These names, and this one where it is new.
-    fn with(self, name: &Str) -> Result<Names, NoMemory>
-        ensures { IfOk result (λ n. n.found.items ≡ with_name self.found.items name.now) }
-    {
-        if self.seen.contains(name) {
-            return Ok(self);
-        }
-        let Names {
-            mut found,
-            mut seen,
-        } = self;
-        found.push(name.copy()?)?;
-        seen.insert(name.copy()?)?;
-        Ok(Names { found, seen })
-    }
-
-    // With all of these.
-    fn with_all(self, names: &[Str]) -> Result<Names, NoMemory>
-        ensures { IfOk result (λ n. n.found.items ≡ with_names self.found.items names.now) }
-    {
-        let mut all = self;
-        for name in names {
-            all = all.with(name)?;
-        }
-        Ok(all)
-    }
-
-    // With those of the call that this expression is, if it is none of these drivers.
-    fn with_tree(self, drivers: &[Driver<'_>], tree: &BoundExpr) -> Result<Names, NoMemory>
-        ensures { IfOk result (λ n. n.found.items ≡ with_names self.found.items
-            (tree_names (map driver_of drivers.now) (bound_tree tree.now))) }
-    {
-        let Some(call) = call_driver(tree) else {
-            return Ok(self);
-        };
-        if drives(drivers, &call) {
-            return Ok(self);
-        }
-        self.with_all(call.names.as_slice())
-    }
+    names.with_all(call.names.as_slice())
 }
 
 // Adds the driver of a leaf, if it has one.
@@ -143,11 +94,10 @@ pub fn names_beside_drivers(
         ≡ names_beside (map leaf_of plan.now.leaves.items) (bound_trees query.now)) }
 {
     let drivers = drivers(alloc, &plan.leaves)?;
-    let mut names = Names::new(alloc);
+    let mut names = DistinctNames::new(alloc);
     let trees = expressions(alloc, query)?;
     for tree in &trees {
-        names = names.with_tree(&drivers, *tree)?;
+        names = with_tree(names, &drivers, *tree)?;
     }
-    let Names { found, seen: _ } = names;
-    Ok(found)
+    Ok(names.into_list())
 }

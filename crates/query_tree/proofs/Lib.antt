@@ -21,3 +21,4 @@ mod SpineLaws
 mod SpineRows
 pub mod Telling
 pub mod Waits
+mod Walking

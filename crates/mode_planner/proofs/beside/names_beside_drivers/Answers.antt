@@ -19,5 +19,6 @@ loop-tree-preserved c =
 pub returns : goal.returns
 returns c =
     let leaves = map leaf_of c.args.plan.now.leaves.items in
-    sym (told-end (drivers leaves) c.loop-tree.names.found.items c.deref-tree-items.result.now c.loop-tree.tree-index c.loop-tree-test.false)
+    c.into_list.ensures
+    ∙ sym (told-end (drivers leaves) c.loop-tree.names.found.items c.deref-tree-items.result.now c.loop-tree.tree-index c.loop-tree-test.false)
     ∙ c.loop-tree.invariant ∙ beside-told leaves (bound_trees c.args.query.now)
