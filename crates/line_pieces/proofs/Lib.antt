@@ -8,5 +8,6 @@ mod Places
 mod Rows
 mod Sizes
 mod Splits
+mod Sums
 mod Whole
 mod Windows

@@ -1,7 +1,7 @@
 -- What is read of a file for a piece is the piece.
 use Rattle.std.proofs.Common.{◌≡◌, ◌≤◌, ◌<◌, ◌+◌, ◌-◌, ◌*◌, ◌++◌, ◌⊎◌, inl, inr, min, ℕ, zero, suc, List, [], ◌∷◌, None, Some, length, take, drop, position, filter, refl, sym, ap, ◌∙◌, arith, slice_range, take-append-drop, drop-drop, append_assoc, length-take-le, length-drop, mul-le-mul_right, option_map, Option, IfSome, rules, nat_le, mul-pos, Bool, true, false}
 use Rattle.std.specs.List.{before_first}
-use Rattle.std.proofs.lemmas.List.{drop-append-le}
+use Rattle.std.proofs.lemmas.List.{drop-append-le, drop-take}
 use Rattle.std.proofs.lemmas.Grind.{div_ceil_times}
 use Rattle.std.proofs.lemmas.Bool.Decides.{nat_tests}
 use Rattle.item_reader.specs.Lines.{cut, placed}
@@ -280,3 +280,28 @@ some_in_part size number whole from end skipped range bytes (Some b) r w first l
         ∙ ap (λ (l : List ℕ). lines_at (from + (found.0 + 1)) (drop (found.0 + 1) l)) all
         ∙ later_part size number from end found.0 b (has.later more) has.order has.inside has.last has.short
         (ap (position is_end) (sym is) ∙ found.1)
+
+drop_filled : (skipped filled : ℕ) (bytes : List ℕ) → skipped ≤ filled
+    → slice_range bytes skipped filled ≡ drop skipped (take filled bytes)
+drop_filled skipped filled bytes h =
+    let whole : skipped + (filled - skipped) ≡ filled = omega (arith, h) in
+    sym (drop-take skipped (filled - skipped) bytes)
+    ∙ ap (λ k. drop skipped (take k bytes)) whole
+
+-- the same, of bytes so many of which are filled
+pub some_read : (size number whole from end skipped n filled : ℕ) (first bytes : List ℕ) (held : Option (List ℕ)) (r : Option ℕ)
+    → IsWindow size number whole from end
+    → (number ≡ 0 → r ≡ Some 0)
+    → (0 < number → r ≡ option_map (λ i. i + 1) (position is_end (take n first)))
+    → r ≡ Some skipped
+    → n ≤ length first → skipped ≤ filled
+    → IfSome held (λ b. whole ≡ length b)
+    → IfSome held (λ b. end ≤ length b → take n first ≡ slice_range b from end)
+    → IfSome held (λ b. whole ≡ length b → from + n ≡ end
+    → take filled bytes ≡ take n first ++ before_first is_end (drop end b))
+    → IfSome held (λ b. lines_at (from + skipped) (slice_range bytes skipped filled) ≡ lines_in size number b)
+some_read size number whole from end skipped n filled first bytes None r w one later some inside order told read on = tt
+some_read size number whole from end skipped n filled first bytes (Some b) r w one later some inside order told read on =
+    ap (lines_at (from + skipped)) (drop_filled skipped filled bytes order)
+    ∙ some_in_part size number whole from end skipped (take n first) (take filled bytes) (Some b) r w one later some told read
+    (λ same. λ place. on same (ap (λ k. from + k) (sym (length-take-le n first inside)) ∙ place))

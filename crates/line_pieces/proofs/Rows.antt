@@ -2,7 +2,7 @@
 use Rattle.std.proofs.Common.{◌≡◌, ◌++◌, ℕ, List, [], ◌∷◌, codes, map, length, refl}
 use Rattle.item_reader.specs.Lines.{Line}
 use Rattle.line_pieces.specs.Cuts.{size_used, pieces_of, place_of}
-use Rattle.line_pieces.specs.Pieces.{piece_of, all_pieces}
+use Rattle.line_pieces.specs.Pieces.{piece_of, all_pieces, bytes_sum}
 
 line : ℕ → List ℕ → Line
 line at bytes = record { at = at; bytes = bytes }
@@ -28,6 +28,9 @@ marked_last = refl
 marked_all : all_pieces 1 (marked ∷ []) ≡ line 0 (49 ∷ 13 ∷ []) ∷ line 8 (50 ∷ []) ∷ []
 unfolding line
 marked_all = refl
+
+marked_sum : bytes_sum (all_pieces 1 (marked ∷ [])) ≡ 112
+marked_sum = refl
 
 -- `1`, a line of 40 bytes, `3`
 abbrev long : List ℕ

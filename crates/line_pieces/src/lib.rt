@@ -11,9 +11,11 @@ mod mark;
 mod part;
 mod piece;
 mod read;
+mod reader;
 
 pub use cut::Cut;
 pub use fault::PieceFault;
-pub use lines::Line;
+pub use lines::{LentLine, Line, Lines};
 pub use piece::{count_lines, piece_lines};
 pub use read::read_whole;
+pub use reader::PieceReader;

@@ -1,20 +1,34 @@
-ghost use Rattle.std.specs.Prelude.{◌≡◌, ◌≤◌, ◌<◌, ◌+◌, ◌^◌, length, drop};
+//! Where the lines of a piece stand in bytes that were read.
 
-/// A part of a file that begins where a line begins, behind some bytes that are skipped.
-#[derive(Drop)]
+ghost use Rattle.std.specs.Prelude.{◌≡◌, ◌<◌, length};
+ghost use Rattle.line_pieces.specs.inside.Parts.{IsPartOf, part_bytes, part_lines};
+
+/// Where the lines of a piece stand in bytes that were read: behind some that are skipped, and up
+/// to where the bytes are filled.
+#[derive(Clone, Copy)]
 pub(crate) struct Part {
     pub at: u64,
     pub skipped: usize,
-    pub bytes: Vec<u8>,
-    ghost inside: { skipped ≤ length bytes.items },
-    ghost fits: { at + length bytes.items < skipped + 2 ^ 64 },
+    pub filled: usize,
 }
 
 impl Part {
-    /// The part without what is skipped.
-    pub(crate) fn bytes(&self) -> &[u8]
-        ensures { result.now ≡ drop self.now.skipped self.now.bytes.items }
+    /// A part without a line.
+    pub(crate) fn none() -> Part
+        ensures { result ≡ record { at = 0; skipped = 0; filled = 0 } }
     {
-        &self.bytes[self.skipped..]
+        Part {
+            at: 0,
+            skipped: 0,
+            filled: 0,
+        }
+    }
+
+    /// The part of these bytes, from its first line on.
+    pub(crate) fn bytes<'a>(&self, bytes: &'a [u8]) -> &'a [u8]
+        requires { IsPartOf bytes.now self.now }
+        ensures { result.now ≡ part_bytes bytes.now self.now }
+    {
+        &bytes[self.skipped..self.filled]
     }
 }

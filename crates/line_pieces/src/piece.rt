@@ -1,16 +1,16 @@
 //! The lines of a piece of some files.
 
-ghost use Rattle.std.specs.Prelude.{◌≡◌, ◌≤◌, ◌<◌, ◌+◌, ◌^◌, map, length, position, get_or, option_map, Some, None, IfOk, IfSome};
+ghost use Rattle.std.specs.Prelude.{◌≡◌, ◌≤◌, ◌<◌, ◌+◌, ◌^◌, map, length, position, option_map, Some, None, IfOk, IfSome};
 ghost use Rattle.line_pieces.specs.Cuts.{pieces_in, pieces_of, HaveLengths, file_of_piece};
 ghost use Rattle.line_pieces.specs.Pieces.{line_of, lines_in, told_piece};
 ghost use Rattle.line_pieces.specs.Faults.{CausedBy, CausedByFile, NoneFalls};
 ghost use Rattle.line_pieces.specs.inside.Contents.{is_end};
-ghost use Rattle.line_pieces.specs.inside.Parts.{part_lines};
+ghost use Rattle.line_pieces.specs.inside.Parts.{IsPartOf, part_lines};
 
-use crate::lines::{Line, count_at, lines_at};
+use crate::lines::Line;
 use crate::part::Part;
-use crate::read::{read_buffer, read_range, with_line_end};
-use crate::{Cut, PieceFault};
+use crate::read::{read_line_behind, read_range, reserve, to_ask};
+use crate::{Cut, PieceFault, PieceReader};
 use byte_lanes::first_newline;
 use outside::InputFile;
 use std::alloc::Global;
@@ -32,20 +32,21 @@ fn first_begin(bytes: &[u8], number: u64) -> Option<usize>
     }
 }
 
-// The part of a file of this length whose lines are those that begin in the piece of this number,
-// if one begins there.
-fn read_part<F: InputFile>(
-    alloc: Global,
+/// Reads the part of a file of this length whose lines are those that begin in the piece of this
+/// number, into the vector.
+pub(crate) fn read_part<F: InputFile>(
     file: &mut F,
+    bytes: &mut Vec<u8>,
     file_length: u64,
     size: u64,
     number: u64,
-) -> Result<Option<Part>, PieceFault>
+) -> Result<Part, PieceFault>
     requires some { 0 < size }
     requires piece { number < pieces_in size file_length }
     requires length { IfSome (F.held file.old) (λ b. file_length ≡ length b) }
+    ensures part { IfOk result (λ part. IsPartOf bytes.new.items part) }
     ensures lines { IfOk result (λ part. IfSome (F.held file.old) (λ b.
-        part_lines part ≡ lines_in size number b)) }
+        part_lines bytes.new.items part ≡ lines_in size number b)) }
     ensures same { F.held file.new ≡ F.held file.old }
     ensures cause { CausedBy result (F.faults file.old) (F.faults file.new) }
     ensures rises { F.faults file.old ≤ F.faults file.new }
@@ -53,61 +54,18 @@ fn read_part<F: InputFile>(
     let start = number * size;
     let from = start.saturating_sub(1);
     let end = start.saturating_add(size - 1).min(file_length);
-    let mut buffer = read_buffer(alloc)?;
-    let range = read_range(alloc, file, buffer.as_mut_slice(), from, end)?;
-    let Some(skipped) = first_begin(&range, number) else {
-        return Ok(None);
+    let more = to_ask(end - from, file_length - end) as u64;
+    reserve(bytes, (end - from).saturating_add(more))?;
+    let range = read_range(file, bytes, from, end)?;
+    let Some(skipped) = first_begin(&bytes[..range], number) else {
+        return Ok(Part::none());
     };
-    let bytes = with_line_end(file, buffer.as_mut_slice(), range, from, end, file_length)?;
-    Ok(Some(Part {
+    let filled = read_line_behind(file, bytes, range, from, end, file_length)?;
+    Ok(Part {
         at: from + skipped as u64,
         skipped,
-        bytes,
-    }))
-}
-
-// As `read_part`, of the file at this position among files.
-fn read_part_of<F: InputFile>(
-    alloc: Global,
-    files: &mut [F],
-    file: usize,
-    file_length: u64,
-    size: u64,
-    number: u64,
-) -> Result<Option<Part>, PieceFault>
-    requires file { file < length files.old }
-    requires some { 0 < size }
-    requires piece { number < pieces_in size file_length }
-    requires length { IfSome (get_or (map F.held files.old) file None) (λ b.
-        file_length ≡ length b) }
-    ensures lines { IfOk result (λ part. IfSome (get_or (map F.held files.old) file None) (λ b.
-        part_lines part ≡ lines_in size number b)) }
-    ensures same { map F.held files.new ≡ map F.held files.old }
-    ensures cause { CausedByFile result file (map F.faults files.old) (map F.faults files.new) }
-    ensures rises { NoneFalls (map F.faults files.old) (map F.faults files.new) }
-{
-    read_part(alloc, &mut files[file], file_length, size, number)
-}
-
-// As `read_part`, of the file and the piece that a cut of some files finds for this number.
-fn read_piece<F: InputFile>(
-    alloc: Global,
-    files: &mut [F],
-    cut: &Cut,
-    piece: u64,
-) -> Result<Option<Part>, PieceFault>
-    requires piece { piece < pieces_of cut.now.size cut.now.lengths }
-    requires lengths { HaveLengths cut.now.lengths (map F.held files.old) }
-    ensures lines { IfOk result (λ part.
-        IfSome (told_piece cut.now (map F.held files.old) piece) (λ ls. part_lines part ≡ ls)) }
-    ensures same { map F.held files.new ≡ map F.held files.old }
-    ensures cause { CausedByFile result (file_of_piece cut.now piece)
-        (map F.faults files.old) (map F.faults files.new) }
-    ensures rises { NoneFalls (map F.faults files.old) (map F.faults files.new) }
-{
-    let (file, number) = cut.place(piece);
-    let length = cut.length(file);
-    read_part_of(alloc, files, file, length, cut.size(), number)
+        filled,
+    })
 }
 
 /// The lines of a piece, without the blank ones: those that begin in it, the last of which is read
@@ -130,10 +88,9 @@ pub fn piece_lines<F: InputFile>(
         (map F.faults files.old) (map F.faults files.new) }
     ensures rises { NoneFalls (map F.faults files.old) (map F.faults files.new) }
 {
-    match read_piece(alloc, files, cut, piece)? {
-        Some(part) => Ok(lines_at(alloc, part.at, part.bytes())?),
-        None => Ok(Vec::new(alloc)),
-    }
+    let mut reader = PieceReader::new(alloc);
+    reader.read(files, cut, piece)?;
+    Ok(reader.to_lines(alloc)?)
 }
 
 /// How many lines a piece has, without the blank ones. Otherwise as `piece_lines`.
@@ -152,8 +109,7 @@ pub fn count_lines<F: InputFile>(
         (map F.faults files.old) (map F.faults files.new) }
     ensures rises { NoneFalls (map F.faults files.old) (map F.faults files.new) }
 {
-    match read_piece(alloc, files, cut, piece)? {
-        Some(part) => Ok(count_at(part.at, part.bytes())),
-        None => Ok(0),
-    }
+    let mut reader = PieceReader::new(alloc);
+    reader.read(files, cut, piece)?;
+    Ok(reader.count())
 }

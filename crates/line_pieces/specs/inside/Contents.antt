@@ -3,6 +3,8 @@ use Rattle.std.specs.Prelude.{ℕ, ◌+◌, ◌==◌, Bool, not, List, [], ◌�
 use denote.Ref.{Bor}
 use Rattle.json_text.specs.Line.{is_blank}
 use Rattle.item_reader.specs.Lines.{Line, cut, placed, without_mark}
+use Rattle.line_pieces.specs.declared.lines.LentLine.{LentLine}
+use Rattle.line_pieces.specs.Pieces.{lent_line}
 
 -- a line feed
 abbrev pub is_end : ℕ → Bool
@@ -43,3 +45,8 @@ lines_left (Some p) = lines_at p.0 p.1
 abbrev pub left_length : Left → ℕ
 left_length None = 0
 left_length (Some p) = length p.1 + 1
+
+-- a line that is lent, where there is one
+abbrev pub lent_lines : Option LentLine → List Line
+lent_lines None = []
+lent_lines (Some l) = lent_line l ∷ []

@@ -1,4 +1,4 @@
-use Rattle.std.proofs.Common.{◌≡◌, ◌+◌, length, vec_len, ◌∙◌, sym, arith}
+use Rattle.std.proofs.Common.{◌∙◌, arith}
 use Rattle.std.proofs.lemmas.Grind.{common_steps}
 use Rattle.line_pieces.proofs.Fronts.{line_front_more, line_front_ends}
 use Rattle.line_pieces.proofs.read.read_line_end.Goals as goal
@@ -6,29 +6,25 @@ use Rattle.line_pieces.proofs.read.read_line_end.Goals as goal
 pub returns-in-Some-clause-bytes : goal.returns-in-Some-clause-bytes
 returns-in-Some-clause-bytes g c =
     let had = c.reading.invariant in
-    let place : c.args.from + vec_len c.reading.bytes ≡ c.args.from + length c.reading.bytes.items =
-    grind (arith, common_steps) in
-    let read = rw (c.len-in-reading.ensures, place, had.same) at c.in_ok-count.ensures.bytes in
-    let before : c.args.from + vec_len c.args.bytes.now ≡ c.args.from + length c.args.bytes.now.items =
-    grind (arith, common_steps) in
-    rw (c.in_ok-extend_from_slice-in-Some.ensures.items, before)
-    (line_front_ends c.args.from c.args.end c.in_ok-count.count c.in-Some.line_end c.args.bytes.now.items
-    c.reading.bytes.items c.read_some.new.buffer _ (sym c.in-Some.ensures) had.bytes read)
+    let read = rw had.same at c.in_ok-now.ensures.bytes in
+    let found = rw c.deref.ensures.value at c.in-Some.ensures in
+    line_front_ends c.args.from c.args.end c.args.first c.reading.filled c.in_ok-now.now c.in-Some.line_end
+    c.args.bytes.now.items c.reading.bytes.items c.read_behind.new.bytes.items _
+    c.in_ok-now.ensures.longer (grind (arith, common_steps)) c.in_ok-now.ensures.kept
+    found had.bytes read
 
 pub reading-preserved : goal.reading-preserved
 reading-preserved g c =
     let had = c.reading.invariant in
-    let place : c.args.from + vec_len c.reading.bytes ≡ c.args.from + length c.reading.bytes.items =
-    grind (arith, common_steps) in
-    let read = rw (c.len-in-reading.ensures, place, had.same) at c.in_ok-count.ensures.bytes in
+    let read = rw had.same at c.in_ok-now.ensures.bytes in
+    let found = rw c.deref.ensures.value at c.in-None.ensures in
     record {
-      same = c.in_ok-count.ensures.same ∙ had.same;
-      steady = c.in_ok-count.ensures.cause ∙ had.steady;
+      same = c.in_ok-now.ensures.same ∙ had.same;
+      steady = c.in_ok-now.ensures.cause ∙ had.steady;
       longer = grind (arith, common_steps);
       within = grind (arith, common_steps);
-      bytes = rw c.in_ok-extend_from_slice-in-None.ensures.items
-          (line_front_more c.args.from c.args.end c.in_ok-count.count c.args.bytes.now.items
-          c.reading.bytes.items c.read_some.new.buffer _ (grind (arith, common_steps))
-          (sym c.in-None.ensures) had.bytes read);
-      room = grind (arith, common_steps);
+      inside = c.in_ok-now.ensures.inside;
+      bytes = line_front_more c.args.from c.args.end c.args.first c.reading.filled c.in_ok-now.now
+          c.args.bytes.now.items c.reading.bytes.items c.read_behind.new.bytes.items _
+          c.in_ok-now.ensures.longer c.in_ok-now.ensures.kept found had.bytes read;
     }

@@ -1,4 +1,4 @@
-use Rattle.std.proofs.Common.{◌≡◌, ◌≤◌, ◌<◌, ◌-◌, length}
+use Rattle.std.proofs.Common.{◌≡◌, ◌≤◌, ◌-◌, ◌+◌, vec_len}
 use Rattle.line_pieces.proofs.Fronts.{IsFront}
 use Rattle.line_pieces.proofs.read.read_range.Given as goal
 
@@ -6,10 +6,10 @@ abbrev pub invariant-reading : goal.invariant-reading
 invariant-reading g l = record {
   same : g.F.InputFile.held l.file ≡ g.F.InputFile.held l.fn.file;
   steady : g.F.InputFile.faults l.file ≡ g.F.InputFile.faults l.fn.file;
-  within : length l.bytes.items ≤ l.end - l.from;
-  bytes : IsFront l.from l.end l.bytes.items (g.F.InputFile.held l.fn.file);
-  room : 0 < length l.buffer;
+  within : l.from + l.filled ≤ l.end;
+  inside : l.filled ≤ vec_len l.bytes;
+  bytes : IsFront l.from l.end l.filled l.bytes.items (g.F.InputFile.held l.fn.file);
 }
 
 abbrev pub decreases-reading : goal.decreases-reading
-decreases-reading g l = (l.end - l.from) - length l.bytes.items
+decreases-reading g l = (l.end - l.from) - l.filled
