@@ -3,3 +3,4 @@ mod Starts
 mod HeadRows
 mod LoadingRows
 mod LoadedFiles
+mod LoadingRules

@@ -2,4 +2,5 @@ pub mod Heads
 pub mod Places
 pub mod Loading
 pub mod Loaded
+pub mod Rules
 pub mod inside

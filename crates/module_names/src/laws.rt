@@ -1,9 +1,15 @@
 //! Laws of the definitions. Each is the contract of a function that does nothing.
 
 ghost use Rattle.module_names.specs.Loaded.{FilesStandOnce};
+ghost use Rattle.module_names.specs.Rules.{RulesSayLoading};
 
 /// The files that are loaded are what the query reaches by imports, 64 at most, each once and
 /// behind all that it imports; the query is the last, and the bodies of all others are `()`.
 pub fn files_stand_once()
     ensures { FilesStandOnce }
+{}
+
+/// Loading comes to what its rules say, one by one, and they say nothing else.
+pub fn rules_say_loading()
+    ensures { RulesSayLoading }
 {}
