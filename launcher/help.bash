@@ -4,6 +4,7 @@ print_help() {
   cat << 'HELP'
 usage: rumble run QUERY            prints the value of the query in the file QUERY
        rumble check QUERY          says whether that query is accepted, and runs nothing
+       rumble explain QUERY        prints which parts of that query can run over pieces of an input
        rumble trial NUMBER LINES   prints what a fixed query gives of lines made from a number
        rumble -e 'TEXT' [FILE]     as run, of the query TEXT; FILE is its standard input
        rumble lines FILE..         names the first line of each file that is no JSON; with --all all of

@@ -144,6 +144,10 @@ run_words() {
       say "trial runs a query of its own, which takes no values"
       return 3
     fi
+    if [ -n "$front" ] && [ "${words[0]-}" = explain ]; then
+      say "explain takes no values: it tells the places of the query's file as it stands"
+      return 3
+    fi
     if [ -n "$front" ] && [ -r "$name" ] && [ ! -d "$name" ]; then
       exec 9< <(print_with_front "$name")
       words[name_at]=/dev/fd/9

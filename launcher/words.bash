@@ -73,9 +73,8 @@ check_words() {
   local verb=${1-} arguments=0 wanted=1 seen=' '
   case $verb in
     '') return ;;
-    run | check) ;;
+    run | check | explain) ;;
     trial) wanted=2 ;;
-    explain) say "explain is not built yet" && return ;;
     *) say "$verb: no such word; rumble --help has all words" && return ;;
   esac
   shift

@@ -23,6 +23,7 @@ status 3" "$("$rumble" $words 2>&1; echo "status $?")"
 --let a:b: a name is a letter or _, and then letters, digits, _ and -|--let a:b=1 -e 1
 --let-json n: the name comes twice|--let n=1 --let-json n=1 -e 1
 trial runs a query of its own, which takes no values|trial 1 2 --let n=1
+explain takes no values: it tells the places of the query's file as it stands|explain q --let n=1
 ROWS
   expect "a value that is not UTF-8" "rumble: --let n: the value is not UTF-8
 status 3" "$("$rumble" --let n=$'\xff' -e 1 2>&1; echo "status $?")"

@@ -42,7 +42,8 @@ test_wrong_words() {
 -e: no such option|run q -e 1
 ru: no such word; rumble --help has all words|ru q
 --workers: no such word; rumble --help has all words|--workers 1 run q
-explain is not built yet|explain q
+--workers: no option of explain|explain q --workers 2
+explain takes one word, QUERY; a query names its inputs itself, as json-lines("FILE")|explain
 trial takes two words, NUMBER and LINES|trial 1
 run takes one word, QUERY; a query names its inputs itself, as json-lines("FILE")|run q f
 check takes one word, QUERY; a query names its inputs itself, as json-lines("FILE")|check

@@ -185,6 +185,7 @@ of_front_opened result (Some w) act query front before after is h = λ other it.
 none_opened : (act : Action) (w : World) (fault : Fault) → inputs_opened act w (Err fault) ≡ []
 none_opened (action.Run stats) w fault = refl
 none_opened action.Check w fault = refl
+none_opened action.Explain w fault = refl
 
 pub refused_opened : (world : Option World) (act : Action) (query : List ℕ) (fault : Fault) (counts : InputCounts) → IsFront query (Err fault)
     → IfSome world (λ w. (other : Front) → IsFront query other → OpenedJust (length (inputs_opened act w other)) counts counts)

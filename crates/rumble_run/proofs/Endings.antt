@@ -15,7 +15,7 @@ use Rattle.rumble_run.specs.Answer.{Answer, IsAnswer, IsOfQuery, IsOfCommand, Is
 use Rattle.rumble_run.specs.Commands.{command_of, wants_stats}
 use Rattle.rumble_run.specs.Ends.{StatusBy, TellsStats, Completes, Calm, OpensBy, OpensByStatus, ChecksAlone}
 use Rattle.rumble_run.specs.Front.{Executable, IsFront}
-use Rattle.rumble_run.specs.Place.{line_of, column_of}
+use Rattle.text_places.specs.Places.{line_of, column_of}
 use Rattle.rumble_run.specs.inside.Computed.{of_executable, of_run}
 use Rattle.rumble_run.specs.inside.Seen.{IsShaped, IsOfStatus, EndsAs, answer_of}
 use Rattle.rumble_run.specs.declared.ending.Ending.{Ending}

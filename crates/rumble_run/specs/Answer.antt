@@ -10,14 +10,17 @@ use Rattle.item_tree.specs.Datum.{Datum}
 use Rattle.item_tree.specs.ItemText.{item_text}
 use Rattle.item_reader.specs.Lines.{without_mark}
 use Rattle.outside.specs.World.{World, file_of}
+use Rattle.query_tree.specs.Compiled.{BoundTrees}
 use Rattle.query_tree.specs.Inputs.{input_names}
 use Rattle.query_meaning.specs.Inputs.{InputsReadAs}
 use Rattle.query_meaning.specs.Library.{Library}
 use Rattle.query_meaning.specs.Outcome.{Outcome}
 use Rattle.query_meaning.specs.Queries.{query_value}
+use Rattle.mode_planner.specs.Plans.{plan}
+use Rattle.plan_text.specs.Explained.{explain_text}
+use Rattle.text_places.specs.Places.{place_text}
 use Rattle.rumble_run.specs.Commands.{command_of}
 use Rattle.rumble_run.specs.Front.{Executable, Front, IsFront}
-use Rattle.rumble_run.specs.Place.{place_text}
 use Rattle.rumble_run.specs.Trial.{trial_query, trial_world}
 use Rattle.rumble_run.specs.declared.status.Status.{Status}
 use Rattle.rumble_run.specs.declared.status.Status.TheVariants.{Done, Raised, Refused, Usage, NoQuery}
@@ -64,6 +67,10 @@ writes out = record { status = Done; out = out; err = [] }
 abbrev pub accepted : Answer
 accepted = writes (lined (codes "accepted"))
 
+-- the lines of the plan of a query, as it is run where no option asks for less
+abbrev pub explained : List ℕ → BoundTrees → Answer
+explained text query = writes (explain_text text (plan false query.body))
+
 -- the text of each item on a line of its own
 abbrev pub output_of : List Datum → List ℕ
 output_of [] = []
@@ -98,6 +105,7 @@ IsOfRun stats text world query answer =
 
 abbrev pub IsOfExecutable : Action → List ℕ → World → Executable → Answer → Type 0
 IsOfExecutable action.Check text world query answer = answer ≡ accepted
+IsOfExecutable action.Explain text world query answer = answer ≡ explained text query.trees
 IsOfExecutable (action.Run stats) text world query answer = IsOfRun stats text world query answer
 
 -- a query with this front: refused, or the action is done

@@ -9,11 +9,11 @@ use Rattle.rumble_run.specs.declared.command.Action.TheVariants as action
 use Rattle.rumble_run.specs.declared.command.Command.{Command}
 use Rattle.rumble_run.specs.declared.command.Command.TheVariants.{Query, Trial}
 
--- nothing is explained yet, and the other options change nothing
+-- the other options change nothing
 abbrev pub command_for : Task → Option Command
 command_for (task.Run query workers size local stats) = Some (Query (action.Run stats) query)
 command_for (task.Check query) = Some (Query action.Check query)
-command_for (task.Explain query) = None
+command_for (task.Explain query) = Some (Query action.Explain query)
 command_for (task.Trial number lines workers size) = Some (Trial number lines)
 
 -- what the words ask for
@@ -24,7 +24,14 @@ command_of words = option_and_then command_for (asked (map encode_utf8_all words
 abbrev pub stats_of : Action → Bool
 stats_of (action.Run stats) = stats
 stats_of action.Check = false
+stats_of action.Explain = false
 
 abbrev pub wants_stats : Option Command → Bool
 wants_stats (Some (Query act name)) = stats_of act
 wants_stats _ = false
+
+-- only a run reads inputs
+abbrev pub ReadsNone : Action → Type 0
+ReadsNone (action.Run stats) = ⊥
+ReadsNone action.Check = Unit {0}
+ReadsNone action.Explain = Unit {0}

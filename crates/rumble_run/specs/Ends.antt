@@ -120,9 +120,10 @@ MissesRose before after = Rose before.misses after.misses
 abbrev pub LooksForNone : InputCounts → InputCounts → Type 0
 LooksForNone before after = (after.opened ≡ before.opened) × (after.misses ≡ before.misses)
 
--- `check` opens no file but its query, and a trial looks for none
+-- `check` and `explain` open no file but their query, and a trial looks for none
 abbrev pub ChecksAlone : Option Command → InputCounts → InputCounts → Type 0
 ChecksAlone (Some (Query action.Check name)) before after = OpenedAtMost 1 before after
+ChecksAlone (Some (Query action.Explain name)) before after = OpenedAtMost 1 before after
 ChecksAlone (Some (Trial number lines)) before after = LooksForNone before after
 ChecksAlone _ before after = Unit {0}
 

@@ -1,6 +1,5 @@
 pub mod Commands
 pub mod Trial
-pub mod Place
 pub mod Front
 pub mod Answer
 pub mod Opens

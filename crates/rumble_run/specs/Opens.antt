@@ -19,6 +19,7 @@ abbrev pub inputs_opened : Action → World → Front → List (List ℕ)
 inputs_opened (action.Run stats) world (Ok query) = files_among world (input_names query.trees)
 inputs_opened (action.Run stats) world (Err fault) = []
 inputs_opened action.Check world front = []
+inputs_opened action.Explain world front = []
 
 -- of a query that is there, and behind it its inputs
 abbrev pub OpensOfFile : Action → List ℕ → World → Option (List ℕ) → List (List ℕ) → Type 0

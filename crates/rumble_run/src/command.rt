@@ -13,6 +13,8 @@ pub(crate) enum Action {
     Run { stats: bool },
     /// It is only told whether it is accepted.
     Check,
+    /// It is told how its parts are evaluated.
+    Explain,
 }
 
 /// What a command line asks for.
@@ -24,7 +26,7 @@ pub(crate) enum Command {
     Trial { number: u32, lines: u32 },
 }
 
-// Nothing is explained yet, and the other options change nothing.
+// The other options change nothing.
 fn command_for(task: Task) -> Option<Command>
     ensures { result ≡ command_for task }
 {
@@ -37,7 +39,10 @@ fn command_for(task: Task) -> Option<Command>
             action: Action::Check,
             name: query,
         }),
-        Task::Explain { .. } => None,
+        Task::Explain { query } => Some(Command::Query {
+            action: Action::Explain,
+            name: query,
+        }),
         Task::Trial { number, lines, .. } => Some(Command::Trial { number, lines }),
     }
 }

@@ -7,7 +7,7 @@ ghost use Rattle.query_tree.specs.Compiled.{bound_trees};
 ghost use Rattle.query_tree.specs.Inputs.{input_names};
 ghost use Rattle.outside.specs.World.{file_of};
 ghost use Rattle.rumble_run.specs.Answer.{IsAnswer, IsOfFile, IsOfQuery, IsOfTrial, of_outcome, usage};
-ghost use Rattle.rumble_run.specs.Commands.{command_of, stats_of};
+ghost use Rattle.rumble_run.specs.Commands.{command_of, stats_of, ReadsNone};
 ghost use Rattle.rumble_run.specs.Ends.{OpensBy, OpensByStatus, ChecksAlone};
 ghost use Rattle.rumble_run.specs.Front.{Front, IsFront};
 ghost use Rattle.rumble_run.specs.Opens.{files_among, inputs_opened, OpensOfFile, OfOpened};
@@ -23,7 +23,9 @@ use crate::lone_input::{lone_input, of_lone_input};
 use crate::mark::without_mark;
 use crate::read::read_named;
 use crate::status::Stop;
-use crate::telling::{accepts, prints, tells_error, tells_no_query, tells_refusal, tells_usage};
+use crate::telling::{
+    accepts, explains, prints, tells_error, tells_no_query, tells_refusal, tells_usage,
+};
 use crate::trial::{trial_inputs, trial_query};
 use expr_eval::eval_query;
 use item_tree::{Item, Str};
@@ -110,7 +112,7 @@ fn of_executable<I: Inputs>(
     ensures opened { IfSome (I.world inputs.old) (λ w. OpenedTo result
         (length (inputs_opened action w (Ok (executable_of query.now)))) (I.counts inputs.old)
         (I.counts inputs.new)) }
-    ensures alone { action ≡ Action.Check →
+    ensures alone { ReadsNone action →
         (I.counts inputs.new).opened ≡ (I.counts inputs.old).opened }
 {
     match action {
@@ -119,6 +121,7 @@ fn of_executable<I: Inputs>(
             Ok(ending)
         }
         Action::Check => Ok(accepts(alloc)?),
+        Action::Explain => Ok(explains(alloc, text, query)?),
     }
 }
 
@@ -138,7 +141,7 @@ fn of_query<I: Inputs>(
     ensures opened { IfSome (I.world inputs.old) (λ w. (front : Front) → IsFront query.now front →
         OpenedTo result (length (inputs_opened action w front)) (I.counts inputs.old)
         (I.counts inputs.new)) }
-    ensures alone { action ≡ Action.Check →
+    ensures alone { ReadsNone action →
         (I.counts inputs.new).opened ≡ (I.counts inputs.old).opened }
 {
     let text = without_mark(query);

@@ -19,7 +19,6 @@ mod items;
 pub mod laws;
 mod lone_input;
 mod mark;
-mod place;
 mod print;
 mod read;
 mod status;

@@ -4,15 +4,19 @@ ghost use Rattle.std.specs.Prelude.{◌≡◌, [], ◌++◌, IfOk, codes, string
 ghost use Rattle.std.specs.Fmt.{decimal};
 ghost use Rattle.std.specs.Str.{encode_utf8_all};
 ghost use Rattle.item_tree.specs.Item.{datums};
-ghost use Rattle.rumble_run.specs.Answer.{says, writes, writes_items, prints, refused, raised, fault_text, clause_text, spot_text, accepted, usage, stats_text};
+ghost use Rattle.query_tree.specs.Compiled.{bound_trees};
+ghost use Rattle.rumble_run.specs.Answer.{says, writes, writes_items, prints, refused, raised, fault_text, clause_text, spot_text, accepted, explained, usage, stats_text};
 ghost use Rattle.rumble_run.specs.inside.Seen.{answer_of};
 
 use crate::ending::Ending;
-use crate::place::line_column;
 use crate::print::{Printed, print_items};
 use crate::status::Status;
 use item_tree::{Fault, Item, NoMemory, Spot, Str};
+use mode_planner::make_plan;
+use plan_text::explain_text;
+use query_tree::Compiled;
 use std::alloc::{AllocError, Global};
+use text_places::line_column;
 
 // The words that the program knows.
 const USAGE: &str = "usage: rumble run QUERY | check QUERY | explain QUERY | trial NUMBER LINES\n";
@@ -125,6 +129,15 @@ pub(crate) fn accepts(alloc: Global) -> Result<Ending, AllocError>
     ensures { IfOk result (λ e. answer_of e ≡ accepted) }
 {
     let out = ACCEPTED.to_vec(alloc)?;
+    Ok(writes(alloc, out))
+}
+
+/// How the parts of a query are evaluated, line by line.
+pub(crate) fn explains(alloc: Global, text: &[u8], query: &Compiled) -> Result<Ending, NoMemory>
+    ensures { IfOk result (λ e. answer_of e ≡ explained text.now (bound_trees query.now.tree)) }
+{
+    let plan = make_plan(alloc, query.module(), false)?;
+    let out = explain_text(alloc, &plan, text)?;
     Ok(writes(alloc, out))
 }
 

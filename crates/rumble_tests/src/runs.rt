@@ -112,7 +112,8 @@ pub(crate) fn assert_left<R: Abort>(
     assert_eq!(rt; left.status, status, "at {at}");
 }
 
-/// That `check` and `run` refuse a query so, and open no other file: a second open would fail.
+/// That `check`, `explain` and `run` refuse a query so, and open no other file: a second open would
+/// fail.
 pub(crate) fn assert_refused<R: Threads + Wait + Sync + Abort>(
     rt: &R,
     alloc: Global,
@@ -120,7 +121,7 @@ pub(crate) fn assert_refused<R: Threads + Wait + Sync + Abort>(
     at: &str,
 ) -> Result<(), Fail> {
     let text = format!(in alloc; "refused {at}\n")?;
-    for command in ["check", "run"] {
+    for command in ["check", "explain", "run"] {
         let files = files_of(alloc, query, b"1\n")?;
         let fails = failing(alloc, &[2], &[])?;
         let left = run_failing(rt, alloc, &[command, "q"], files, fails)?;
@@ -139,6 +140,21 @@ pub(crate) fn assert_accepted<R: Threads + Wait + Sync + Abort>(
     let fails = failing(alloc, &[2], &[])?;
     let left = run_failing(rt, alloc, &["check", "q"], files, fails)?;
     assert_left(rt, &left, Status::Done, b"accepted\n", b"", "check");
+    Ok(())
+}
+
+// That `explain` writes this of a query, and opens no other file.
+fn assert_explained<R: Threads + Wait + Sync + Abort>(
+    rt: &R,
+    alloc: Global,
+    query: &str,
+    out: &str,
+) -> Result<(), Fail> {
+    let files = files_of(alloc, quoted(alloc, query)?.as_bytes(), b"1\n")?;
+    let fails = failing(alloc, &[2], &[])?;
+    let left = run_failing(rt, alloc, &["explain", "q"], files, fails)?;
+    let out = lines(alloc, out)?;
+    assert_left(rt, &left, Status::Done, out.as_bytes(), b"", query);
     Ok(())
 }
 
@@ -194,6 +210,9 @@ fn assert_row<R: Threads + Wait + Sync + Abort>(
     if let Some((query, _)) = row.split_once("\n= accepted") {
         return assert_accepted(rt, alloc, quoted(alloc, query)?.as_bytes());
     }
+    if let Some((query, out)) = row.split_once("\n# ") {
+        return assert_explained(rt, alloc, query, out);
+    }
     if let Some((asked, at)) = row.split_once("\n! ") {
         let err = format!(in alloc; "raised {at}\n")?;
         return assert_run(rt, alloc, asked, Status::Raised, "", err.as_str());
@@ -208,7 +227,8 @@ fn assert_row<R: Threads + Wait + Sync + Abort>(
 /// Goes through the rows of a table, between which stands an empty line, as many as it is to have.
 /// In a row `'` stands for a quotation mark and ` / ` for the end of a line. It is a query; behind
 /// `<` the lines of the input `a`, if it has any; and one of these: behind `>` the lines of the
-/// output, behind `!` the error that is raised, behind `?` the refusal, or `= accepted`.
+/// output, behind `!` the error that is raised, behind `?` the refusal, behind `#` what `explain`
+/// writes, or `= accepted`.
 pub(crate) fn assert_rows<R: Threads + Wait + Sync + Abort>(
     rt: &R,
     alloc: Global,

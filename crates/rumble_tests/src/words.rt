@@ -238,7 +238,7 @@ fn takes_options(rt: HostRuntime) -> Result<(), Fail> {
 #[test]
 fn refuses_other_words(rt: HostRuntime) -> Result<(), Fail> {
     let alloc = rt.alloc();
-    for words in [&["check", "none"], &["run", "none"]] {
+    for words in [&["check", "none"], &["explain", "none"], &["run", "none"]] {
         assert_words(
             &rt,
             alloc,
@@ -258,7 +258,7 @@ fn refuses_other_words(rt: HostRuntime) -> Result<(), Fail> {
         &["run", "q", "q"],
         &["run", "q", "--workers", "65"],
         &["check", "q", "--stats"],
-        &["explain", "q"],
+        &["explain", "q", "--mode=local"],
     ];
     for words in cases {
         assert_words(&rt, alloc, words, "0", (Status::Usage, "", USAGE))?;

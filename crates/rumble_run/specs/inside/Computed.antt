@@ -4,7 +4,7 @@ use Rattle.outside.specs.World.{World}
 use Rattle.query_tree.specs.Inputs.{input_names}
 use Rattle.query_meaning.specs.Queries.{query_value}
 use Rattle.query_meaning.specs.inside.Computed.{inputs_of}
-use Rattle.rumble_run.specs.Answer.{Answer, of_outcome, refused, accepted}
+use Rattle.rumble_run.specs.Answer.{Answer, of_outcome, refused, accepted, explained}
 use Rattle.rumble_run.specs.Front.{Executable, Front}
 use Rattle.rumble_run.specs.declared.command.Action.{Action}
 use Rattle.rumble_run.specs.declared.command.Action.TheVariants as action
@@ -17,6 +17,7 @@ of_run stats text world query =
 
 abbrev pub of_executable : Action → List ℕ → World → Executable → Answer
 of_executable action.Check text world query = accepted
+of_executable action.Explain text world query = explained text query.trees
 of_executable (action.Run stats) text world query = of_run stats text world query
 
 abbrev pub of_front : Action → List ℕ → World → Front → Answer
