@@ -1,9 +1,10 @@
 -- The moves of the search of a `some` or an `every`.
-use Rattle.std.proofs.Common.{◌≡◌, ℕ, zero, suc, ◌+◌, ◌<◌, ◌≤◌, Bool, true, false, if◌then◌else◌, List, [], ◌∷◌, ◌++◌, length, map, get_or, drop, Option, Some, None, Result, Ok, Err, refl, sym, ap, subst, ◌∙◌, arith, add-one}
-use Rattle.std.specs.Prelude.{slice_set, slice_get, unwrap_or}
-use Rattle.std.proofs.lemmas.List.{drop-map, drop_all, set-get_or}
+use Rattle.std.proofs.Common.{◌≡◌, ℕ, zero, suc, ◌+◌, ◌*◌, ◌^◌, ◌<◌, ◌≤◌, Bool, true, false, if◌then◌else◌, List, [], ◌∷◌, ◌++◌, length, map, get_or, drop, Option, Some, None, Result, Ok, Err, refl, sym, ap, subst, ◌∙◌, arith, add-one}
+use Rattle.std.specs.Prelude.{IfOk, slice_set}
+use Rattle.std.proofs.lemmas.List.{drop-map, drop_all, length-drop, set-get_or}
 use Rattle.std.proofs.lemmas.Option.{unwrap_or-slice_get}
 use Rattle.std.proofs.Math.Seq.{drop-cons}
+use Rattle.std.proofs.Math.Nat.{mul-pos, mul-lt-mul_of_pos_right, add-mul}
 use Rattle.item_tree.specs.Datum.{Datum}
 use Rattle.item_tree.specs.Item.{datum, datums}
 use Rattle.item_tree.specs.declared.item.Item.{Item}
@@ -28,11 +29,11 @@ use Rattle.query_meaning.specs.declared.value.Value.{Value}
 use Rattle.query_meaning.specs.declared.fault.EvalFault.{EvalFault}
 use Rattle.query_meaning.specs.declared.fault.EvalFault.TheVariants.{Raised, NoMemory}
 use Rattle.query_meaning.specs.Outcome.{OrFault, Outcome, ◌>>=◌}
-use Rattle.query_meaning.specs.Environment.{Tuple, Environment, Inner, binding, in_tuple, value_in, with_value}
+use Rattle.query_meaning.specs.Environment.{Tuple, Environment, Inner, binding, in_tuple, with_value}
 use Rattle.query_meaning.specs.Checks.{typed, truth_of}
 use Rattle.query_meaning.specs.Choices.{quantified, quantified_over}
 use Rattle.expr_eval.specs.declared.searches.Open.{Open}
-use Rattle.expr_eval.specs.Quantifiers.{OpenBinding, decides, undecided, passes, slot_value, opening, value_first, first_value, behind_first, unless_decided, searched, entered, Moves, RaisesNone}
+use Rattle.expr_eval.specs.Quantifiers.{OpenBinding, decides, undecided, passes, slot_value, opening, value_first, first_value, behind_first, unless_decided, searched, entered, most_moves, moves_left, Moves, RaisesNone}
 use Rattle.expr_eval.specs.Searches.{open_of, innermost}
 use Rattle.expr_eval.proofs.TestSteps.{none_left, one_more, same_after, over_next}
 
@@ -372,3 +373,65 @@ decided_by None holds before after m e = cc
 pub moved_by : (o : Option Bool) (before after : OrFault Bool) → Moves (Ok o) before after → o ≡ None → before ≡ after
 moved_by (Some h) before after m e = cc
 moved_by None before after m e = m
+
+-- ---- how many moves are left
+
+moves_there : (bs : PlainBinds Slot Target SeqType) → 0 < most_moves bs
+moves_there p.no_binds = omega arith
+moves_there (p.more_binds b bs) =
+    let h : 0 < most_moves bs = moves_there bs in mul-pos {m = 2 ^ 64 + 1} {n = most_moves bs} (omega arith) h
+
+pub fewer_closed : (o : OpenBinding) (os : List OpenBinding) → moves_left os < moves_left (o ∷ os)
+unfolding moves_left
+fewer_closed o os =
+    let h : 0 < (length o.left + 1) * most_moves o.behind = mul-pos {m = length o.left + 1} {n = most_moves o.behind} (omega arith) (moves_there o.behind) in
+    omega arith
+
+one_fewer : (o : OpenBinding) (os : List OpenBinding) → 0 < length o.left → most_moves o.behind + moves_left (behind_first o ∷ os) ≡ moves_left (o ∷ os)
+unfolding moves_left
+one_fewer o os h =
+    let n = length o.left in
+    let m = most_moves o.behind in
+    let d : length (drop 1 o.left) + 1 ≡ n = omega (arith, length-drop 1 o.left) in
+    let e : (n + 1) * m ≡ n * m + 1 * m = add-mul n 1 m in
+    let f : (length (drop 1 o.left) + 1) * m ≡ n * m = ap (λ k. k * m) d in
+    omega arith
+
+some_left : (o : OpenBinding) (value : List Datum) → first_value o ≡ Ok (Some value) → 0 < length o.left
+some_left o value h = by o.left h
+  where
+    by : (left : List Datum) → value_first o.variable o.type left ≡ Ok (Some value) → 0 < length left
+    by [] e = cc
+    by (x ∷ xs) e = omega arith
+
+pub fewer_bound : (o later : OpenBinding) (os next : List OpenBinding) (value : List Datum) (bs : PlainBinds Slot Target SeqType) (left : ℕ)
+    → first_value o ≡ Ok (Some value) → later ≡ behind_first o → bs ≡ later.behind → next ≡ later ∷ os
+    → left < most_moves bs + moves_left next → left < moves_left (o ∷ os)
+fewer_bound o later os next value bs left h is rest same fewer =
+    let e : most_moves bs + moves_left next ≡ most_moves o.behind + moves_left (behind_first o ∷ os) =
+    ap (λ l. most_moves l + moves_left next) rest ∙ ap (λ l. most_moves later.behind + moves_left l) same ∙ ap (λ (b : OpenBinding). most_moves b.behind + moves_left (b ∷ os)) is in
+    omega (arith, one_fewer o os (some_left o value h))
+
+pub fewer_tested : (binds : List BoundBind) (os : List OpenBinding) → length binds < 1 → moves_left os < most_moves (bound_binds binds) + moves_left os
+fewer_tested [] os h = omega arith
+fewer_tested (b ∷ binds) os h = absurd (omega arith)
+
+pub fewer_opened : (binds rest : List BoundBind) (bind : BoundBind) (os next : List OpenBinding) (frame : Tuple) (items : List Datum)
+    → binds ≡ bind ∷ rest → next ≡ opening bind.variable bind.of (bound_binds rest) frame items ∷ os → length items < 2 ^ 64
+    → moves_left next < most_moves (bound_binds binds) + moves_left os
+unfolding moves_left
+fewer_opened binds rest bind os next frame items is opens h =
+    let m = most_moves (bound_binds rest) in
+    let less : (length items + 1) * m < (2 ^ 64 + 1) * m = mul-lt-mul_of_pos_right {m = length items + 1} {n = 2 ^ 64 + 1} {k = m} (omega arith) (moves_there (bound_binds rest)) in
+    let a : moves_left next ≡ (length items + 1) * m + moves_left os = ap moves_left opens in
+    let b : most_moves (bound_binds binds) ≡ (2 ^ 64 + 1) * m = ap (λ l. most_moves (bound_binds l)) is in
+    omega arith
+
+pub fewer_if : (r : Result (Option Bool) EvalFault) (left a b : ℕ) → (left < a → left < b) → IfOk r (λ _. left < a) → IfOk r (λ _. left < b)
+fewer_if (Ok x) left a b f h = f h
+fewer_if (Err fault) left a b f h = tt
+
+pub fewer_next : (bindings rest : List Open) (b : Open) (left : ℕ) → bindings ≡ rest ++ b ∷ [] → left < moves_left (open_of b ∷ innermost rest) → left < moves_left (innermost bindings)
+fewer_next bindings rest b left is h =
+    let e : moves_left (innermost bindings) ≡ moves_left (open_of b ∷ innermost rest) = ap moves_left (ap innermost is ∙ innermost_last rest b) in
+    omega arith

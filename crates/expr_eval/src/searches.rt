@@ -1,6 +1,6 @@
 //! What is open of the search of a `some` or an `every`, as a list on the heap.
 
-ghost use Rattle.std.specs.Prelude.{◌≡◌, ◌∷◌, Option, option_map, OnOk, Ok, slice_set};
+ghost use Rattle.std.specs.Prelude.{◌≡◌, ◌<◌, ◌^◌, length, ◌∷◌, Option, option_map, OnOk, Ok, slice_set};
 ghost use Rattle.query_tree.specs.BoundViews.{bound_binds};
 ghost use Rattle.query_meaning.specs.Checks.{typed};
 ghost use Rattle.query_meaning.specs.Environment.{with_value};
@@ -123,8 +123,11 @@ impl<'b, 'a> Search<'b, 'a> {
             (tuple_of self.old.frame.items) (items_of items.entry)
             ∷ innermost self.old.bindings.items) }
         ensures frame { OnOk result (self.new.frame.items ≡ self.old.frame.items) }
+        ensures count { OnOk result (length (items_of items.entry) < 2 ^ 64) }
         ensures fails { RaisesNone result }
     {
+        // No list has 2^64 items, so the search ends.
+        let _count = items.items().len();
         let before = slot_again(alloc, &self.frame, bind.variable.name)?;
         self.bindings.push(Open {
             bind,
@@ -156,7 +159,8 @@ impl<'b, 'a> Search<'b, 'a> {
     /// Binds a value to the variable of a binding, which stays open.
     pub(crate) fn binds(&mut self, binding: Open<'b, 'a>, value: Value<'a>) -> Result<(), EvalFault>
         ensures bindings { OnOk result
-            (innermost self.new.bindings.items ≡ open_of binding.entry ∷ innermost self.old.bindings.items) }
+            (innermost self.new.bindings.items
+            ≡ open_of binding.entry ∷ innermost self.old.bindings.items) }
         ensures frame { OnOk result (tuple_of self.new.frame.items
             ≡ with_value (tuple_of self.old.frame.items) (open_of binding.entry).variable.name
             (items_of value.entry)) }

@@ -1,4 +1,4 @@
-use Rattle.std.proofs.Common.{ap, ◌∙◌, rules}
+use Rattle.std.proofs.Common.{ap, ◌∙◌}
 use Rattle.expr_eval.specs.Searches.{open_of, innermost}
 use Rattle.expr_eval.proofs.SearchSteps.{innermost_last}
 use Rattle.expr_eval.proofs.searches.Search.binds.Goals as goal

@@ -1,7 +1,6 @@
-use Rattle.std.proofs.Common.{◌≡◌, ap, ◌∙◌, refl, rules}
-use Rattle.query_meaning.specs.inside.Views.{tuple_of}
-use Rattle.expr_eval.specs.Searches.{open_of, innermost}
-use Rattle.expr_eval.proofs.SearchSteps.{innermost_last, open_new, raises_none}
+use Rattle.std.proofs.Common.{ap, ◌∙◌}
+use Rattle.expr_eval.specs.Searches.{innermost}
+use Rattle.expr_eval.proofs.SearchSteps.{innermost_last, open_new}
 use Rattle.expr_eval.proofs.searches.Search.opens.Goals as goal
 
 pub returns-clause-bindings : goal.returns-clause-bindings
