@@ -3,6 +3,7 @@ mod Codes
 mod Depths
 mod EntryLemmas
 mod Failing
+mod FixedSteps
 mod HandlerSteps
 mod InputLists
 mod ItemPositions

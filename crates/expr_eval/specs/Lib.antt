@@ -1,5 +1,6 @@
 pub mod Arguments
 pub mod Entries
+pub mod Fixed
 pub mod Functions
 pub mod Handlers
 pub mod Inputs

@@ -7,6 +7,7 @@ mod arrays;
 mod calls;
 mod choices;
 pub mod evaluation;
+mod fixed;
 mod kinds;
 mod leaves;
 mod lines;
