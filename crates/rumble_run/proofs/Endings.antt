@@ -11,9 +11,9 @@ use Rattle.query_meaning.specs.Library.{Library}
 use Rattle.query_meaning.specs.Outcome.{Outcome}
 use Rattle.query_meaning.specs.Queries.{query_value}
 use Rattle.query_meaning.specs.inside.Computed.{inputs_of}
-use Rattle.rumble_run.specs.Answer.{Answer, IsAnswer, IsOfQuery, IsOfCommand, IsOfFile, IsOfTrial, IsOfExecutable, of_outcome, output_of, stats_text, says, refused, accepted, usage}
+use Rattle.rumble_run.specs.Answer.{Answer, IsAnswer, IsOfQuery, IsOfCommand, IsOfFile, IsOfTrial, IsOfExecutable, of_outcome, output_of, says, refused, accepted, usage}
 use Rattle.rumble_run.specs.Commands.{command_of, wants_stats}
-use Rattle.rumble_run.specs.Ends.{StatusBy, TellsStats, Completes, Calm, OpensBy, OpensByStatus, ChecksAlone}
+use Rattle.rumble_run.specs.Ends.{StatusBy, Completes, Calm, OpensBy, OpensByStatus, ChecksAlone}
 use Rattle.rumble_run.specs.Front.{Executable, IsFront}
 use Rattle.text_places.specs.Places.{line_of, column_of}
 use Rattle.rumble_run.specs.inside.Computed.{of_executable, of_run}

@@ -25,7 +25,6 @@ use Rattle.static_rules.specs.Outcomes.{CompilesTo}
 use Rattle.static_rules.specs.Refusals.{refusal}
 use Rattle.static_rules.specs.Rules.{code_of}
 use Rattle.static_rules.specs.declared.rules.Refusal.{Refusal}
-use Rattle.rumble_run.specs.Answer.{says}
 use Rattle.rumble_run.specs.Front.{Front, IsFront, IsFrontBehindMark, IsFrontOfText, IsFrontOfTokens, BreaksAt, refused_at, max_length, front_by, static_front}
 use Rattle.rumble_run.specs.Laws.{HasOneFront}
 use Rattle.rumble_run.specs.inside.Seen.{executable_of}

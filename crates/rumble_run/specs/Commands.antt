@@ -1,5 +1,5 @@
 -- What a command line asks for.
-use Rattle.std.specs.Prelude.{ℕ, Bool, false, List, map, Option, None, Some, option_and_then}
+use Rattle.std.specs.Prelude.{ℕ, Bool, false, List, map, Option, Some, option_and_then}
 use Rattle.std.specs.Str.{encode_utf8_all}
 use Rattle.run_words.specs.Asked.{asked}
 use Rattle.run_words.specs.declared.task.Task.{Task}
