@@ -23,7 +23,7 @@ front_nothing (Err e) = refl
 pub nothing_behind : {A : Type 0} (xs : List A) → with_front xs (Ok []) ≡ Ok xs
 nothing_behind xs = ap (λ ys. Ok ys) (append_nothing xs)
 
-pub joined_nothing : {A : Type 0} (o : OrFault (List A)) → joined o (Ok []) ≡ o
+joined_nothing : {A : Type 0} (o : OrFault (List A)) → joined o (Ok []) ≡ o
 joined_nothing (Ok xs) = ap (λ ys. Ok ys) (append_nothing xs)
 joined_nothing (Err e) = refl
 

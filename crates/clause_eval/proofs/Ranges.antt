@@ -1,8 +1,9 @@
 -- What is left of lists that are counted.
-use Rattle.std.proofs.Common.{◌≡◌, ℕ, zero, suc, ◌+◌, List, [], ◌∷◌, ◌++◌, take, drop, length, refl, sym, ap, ◌∙◌, map, arith}
+use Rattle.std.proofs.Common.{◌≡◌, ℕ, zero, suc, ◌+◌, List, [], ◌∷◌, ◌++◌, take, drop, length, get_or, ◌-◌, ◌<◌, refl, sym, ap, ◌∙◌, map, arith}
 use Rattle.std.specs.List.{range_with_len}
 use Rattle.std.specs.Prelude.{Vec}
 use Rattle.std.specs.declared.alloc.Global.{Global}
+use Rattle.std.proofs.Math.Seq.{take-length}
 use Rattle.std.proofs.lemmas.List.{append_assoc, map-append}
 use Rattle.item_tree.specs.declared.item.Item.{Item}
 use Rattle.item_tree.specs.Item.{datums}
@@ -77,3 +78,10 @@ numbers_length a (suc n) = ap suc (numbers_length (a + 1) n)
 pub blanks_length : (n : ℕ) → length (blanks n) ≡ n
 blanks_length zero = refl
 blanks_length (suc n) = ap suc (blanks_length n)
+
+-- the first of a list, and those behind it as the code takes them
+pub first_is : {A : Type 0} (xs : List A) (x : A) → 0 < length xs → x ≡ get_or xs 0 x → xs ≡ x ∷ take (length xs - 1) (drop 1 xs)
+first_is [] x h is = absurd (omega arith)
+first_is (y ∷ ys) x h is =
+    let n : length (y ∷ ys) - 1 ≡ length ys = omega arith in
+    ap (λ z. z ∷ ys) (sym is) ∙ ap (λ t. x ∷ t) (sym (ap (λ k. take k ys) n ∙ take-length ys))

@@ -80,8 +80,8 @@ impl<F: for<'s, 'a> Fn(Global, &BoundExpr, &Env<'s, 'a>) -> Result<Value<'a>, Ev
         self.of(e, &at_frame(env, frame))
     }
 
-    // The effective boolean value of an expression of a tuple.
-    fn truth_in_frame(
+    /// The effective boolean value of an expression of a tuple.
+    pub(crate) fn truth_in_frame(
         &self,
         e: &BoundExpr,
         frame: &Frame<'_>,
@@ -153,9 +153,9 @@ impl<F: for<'s, 'a> Fn(Global, &BoundExpr, &Env<'s, 'a>) -> Result<Value<'a>, Ev
         pushed_if(holds, frame, out)
     }
 
-    // The tuples that a tuple gives at a clause, behind others.
+    /// The tuples that a tuple gives at a clause, behind others.
     #[tactic(auto, using(query_tree::proofs::Layers::layers, crate::proofs::Fronts::nothing_behind))]
-    fn tuples_at<'a>(
+    pub(crate) fn tuples_at<'a>(
         &self,
         clause: &BoundClause,
         position: u64,

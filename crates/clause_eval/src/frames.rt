@@ -25,7 +25,7 @@ pub fn again<'a>(alloc: Global, frame: &[Value<'a>]) -> Result<Vec<Value<'a>>, E
 /// Puts a value at a position of a list, if the list has it. It is generic, so that a check needs
 /// no proof of its own for each kind of value that is dropped.
 #[tactic(auto, using(crate::proofs::Members::sets))]
-fn put<T: Drop>(list: &mut Vec<T>, at: usize, value: T)
+pub(crate) fn put<T: Drop>(list: &mut Vec<T>, at: usize, value: T)
     ensures { list.new.items ≡ slice_set list.old.items at value }
 {
     if at < list.len() {

@@ -16,7 +16,7 @@ ghost use Rattle.clause_eval.specs.Frames.{frame_tuple, frame_tuples, tuples_of,
 ghost use Rattle.clause_eval.specs.Grouping.{HasKeys, AllHaveKeys, IsShaped, IsTable};
 ghost use Rattle.clause_eval.specs.Positions.{behind, position, numbers_from, blanks, position_row, numbered, tuple_at, with_values, first_written, values_written, slot_of_all, slots_from, read_group};
 
-use crate::frames::written;
+use crate::frames::{put, written};
 use crate::results::nothing;
 use crate::tuples::Frame;
 use group_table::GroupTable;
@@ -39,15 +39,16 @@ pub(crate) fn numbers_of(alloc: Global, slots: &[Slot]) -> Result<Vec<u32>, Eval
     Ok(numbers)
 }
 
-fn has_slot(slots: &[u32], i: u32) -> bool
-    ensures { result ≡ has_slot slots.now i }
+// So many slots, none of which is joined.
+fn no_flags(alloc: Global, width: usize) -> Result<Vec<bool>, EvalFault>
+    ensures { Gives (λ v. v.items) result
+        (Ok (map (has_slot []) (range_with_len 0 width))) }
 {
-    for slot in slots {
-        if *slot == i {
-            return true;
-        }
+    let mut flags = Vec::with_capacity(alloc, width)?;
+    for slot in 0..width {
+        flags.push(false)?;
     }
-    false
+    Ok(flags)
 }
 
 /// Of each of so many slots, whether it is joined.
@@ -59,12 +60,9 @@ pub(crate) fn joined_flags(
     ensures { Gives (λ v. v.items) result
         (Ok (map (has_slot joined.now) (range_with_len 0 width))) }
 {
-    if width >= u32::MAX as usize {
-        return Err(EvalFault::NoMemory);
-    }
-    let mut flags = Vec::with_capacity(alloc, width)?;
-    for i in 0..width {
-        flags.push(has_slot(joined, i as u32))?;
+    let mut flags = no_flags(alloc, width)?;
+    for slot in joined {
+        put(&mut flags, *slot as usize, true);
     }
     Ok(flags)
 }

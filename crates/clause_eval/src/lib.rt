@@ -6,6 +6,7 @@
 mod bindings;
 mod checks;
 mod clauses;
+mod depth_first;
 mod evaluator;
 mod flwor;
 mod frames;
@@ -13,10 +14,13 @@ mod group;
 mod groups;
 mod items;
 mod keys;
+mod narrow;
 mod order;
+mod progress;
 mod results;
 mod tuples;
 mod variables;
+mod waiting;
 
 pub use checks::typed;
 pub use clauses::BoundClause;
