@@ -1,6 +1,6 @@
 //! Bytes of a file by ranges, read to the front of a vector whose room is kept.
 
-ghost use Rattle.std.specs.Prelude.{◌≡◌, ◌≤◌, ◌<◌, ◌+◌, ◌-◌, ◌++◌, length, drop, take, slice_range, IfOk, OnOk, IfSome, vec_len};
+ghost use Rattle.std.specs.Prelude.{◌≡◌, ◌≤◌, ◌<◌, ◌+◌, ◌-◌, ◌++◌, length, drop, take, slice_range, IfOk, OnOk, IfSome, vec_len, vec_capacity};
 ghost use Rattle.std.specs.List.{before_first};
 ghost use Rattle.outside.specs.World.{ReadsOf};
 ghost use Rattle.line_pieces.specs.Faults.{CausedBy};
@@ -18,7 +18,7 @@ const MOST_ASKED: u64 = 65_536;
 const LEAST_ASKED: u64 = 256;
 
 // Reads some of the bytes from this place on into the slice's front, and answers how many. Nothing
-// else here reads from a file, so no read asks for more than this takes.
+// else in this crate calls `read_at`, so no read asks for more bytes than this takes.
 fn read_some<F: InputFile>(file: &mut F, at: u64, into: &mut [u8]) -> Result<usize, PieceFault>
     requires few { length into.old ≤ 65536 }
     ensures same { F.held file.new ≡ F.held file.old }
@@ -35,7 +35,8 @@ fn read_some<F: InputFile>(file: &mut F, at: u64, into: &mut [u8]) -> Result<usi
 
 /// Takes at once the memory that so many bytes need, where the vector does not have it.
 pub(crate) fn reserve(bytes: &mut Vec<u8>, length: u64) -> Result<(), AllocError>
-    ensures { bytes.new.items ≡ bytes.old.items }
+    ensures kept { bytes.new.items ≡ bytes.old.items }
+    ensures room { OnOk result (length ≤ vec_capacity bytes.new) }
 {
     let had = bytes.len() as u64;
     if had < length {

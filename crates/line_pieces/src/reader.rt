@@ -45,8 +45,8 @@ impl PieceReader {
         }
     }
 
-    /// Reads a piece of this file, which is the one that the cut has it of. What was read before
-    /// changes nothing, and goes; after a fault there is no line.
+    /// Reads a piece of this file, which has the place among the cut's files that the piece has.
+    /// What was read before changes nothing, and goes; after a fault there is no line.
     pub fn read_of<F: InputFile>(
         &mut self,
         file: &mut F,
@@ -134,8 +134,8 @@ impl PieceReader {
         count_at(self.part.at, self.part.bytes(&self.bytes))
     }
 
-    /// The sum of all bytes of these lines, of which 64 bits are kept: a seed for hashes that is
-    /// another one where an input is another one, mostly.
+    /// The sum of all bytes of these lines, of which 64 bits are kept. It may seed hashes: the sums
+    /// of all pieces make the sum of all lines, however the files are cut.
     pub fn sum(&self) -> u64
         ensures { result ≡ bytes_sum self.now }
     {
