@@ -4,3 +4,5 @@ mod HeadRows
 mod LoadingRows
 mod LoadedFiles
 mod LoadingRules
+mod Steps
+mod Answering

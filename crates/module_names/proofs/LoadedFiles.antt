@@ -17,7 +17,7 @@ or_both : (a b c : Bool) → (a || (b || c)) ≡ ((a || b) || c)
 or_both true b c = refl
 or_both false b c = refl
 
-has_more : (n : Name) (ns : List Name) (m : Name) → has_name n (ns ++ m ∷ []) ≡ (has_name n ns || bytes_eq n m)
+pub has_more : (n : Name) (ns : List Name) (m : Name) → has_name n (ns ++ m ∷ []) ≡ (has_name n ns || bytes_eq n m)
 has_more n [] m = or_false (bytes_eq n m)
 has_more n (k ∷ ns) m = ap (λ (b : Bool). bytes_eq n k || b) (has_more n ns m) ∙ or_both (bytes_eq n k) (has_name n ns) (bytes_eq n m)
 
@@ -29,7 +29,7 @@ or_last : (a b : Bool) → b ≡ true → (a || b) ≡ true
 or_last true b h = refl
 or_last false b h = h
 
-or_none : (a b : Bool) → a ≡ false → b ≡ false → (a || b) ≡ false
+pub or_none : (a b : Bool) → a ≡ false → b ≡ false → (a || b) ≡ false
 or_none true b h k = h
 or_none false b h k = k
 

@@ -3,4 +3,5 @@ pub mod Places
 pub mod Loading
 pub mod Loaded
 pub mod Rules
+pub mod Remaining
 pub mod inside

@@ -1,2 +1,3 @@
 -- How the code goes about it.
 pub mod Next
+pub mod Order

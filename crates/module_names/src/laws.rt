@@ -1,6 +1,7 @@
 //! Laws of the definitions. Each is the contract of a function that does nothing.
 
 ghost use Rattle.module_names.specs.Loaded.{FilesStandOnce};
+ghost use Rattle.module_names.specs.Remaining.{AsksAreAnswered};
 ghost use Rattle.module_names.specs.Rules.{RulesSayLoading};
 
 /// The files that are loaded are what the query reaches by imports, 64 at most, each once and
@@ -12,4 +13,10 @@ pub fn files_stand_once()
 /// Loading comes to what its rules say, one by one, and they say nothing else.
 pub fn rules_say_loading()
     ensures { RulesSayLoading }
+{}
+
+/// What remains once an import was answered is what remained before it; what remains at the start
+/// is what loading comes to, and what remains without a file under way is what is done.
+pub fn asks_are_answered()
+    ensures { AsksAreAnswered }
 {}

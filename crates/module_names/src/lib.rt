@@ -4,7 +4,9 @@
 
 mod head;
 pub mod laws;
+mod order;
 mod places;
 
 pub use head::{HeadFault, Import, imports};
+pub use order::{File, Loading, Refused, Source, Step, add_library, next_step, start_loading};
 pub use places::locate;

@@ -1,0 +1,5 @@
+use Rattle.module_names.proofs.Answering.{answered}
+use Rattle.module_names.proofs.laws.asks_are_answered.Goals as goal
+
+pub returns : goal.returns
+returns c = answered

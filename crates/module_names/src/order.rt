@@ -1,0 +1,161 @@
+//! The order in which files are loaded, import by import.
+
+ghost use Rattle.std.specs.Prelude.{◌≡◌, ◌<◌, ◌+◌, ◌-◌, ◌^◌, ◌∷◌, [], IfOk, OnOk};
+ghost use Rattle.module_names.specs.Loading.{has_name};
+ghost use Rattle.module_names.specs.Remaining.{IsStep, state_of, begun, source_view};
+ghost use Rattle.module_names.specs.inside.Order.{file_names, IsRefused};
+
+use crate::Import;
+use item_tree::{Code, NoMemory, Str};
+use std::alloc::Global;
+
+/// How many files may be loaded, the query counted.
+const MOST_FILES: usize = 64;
+
+/// A file that was read alone: its imports, where its body stands if that is not `()`, and the
+/// number by which its reader knows it.
+#[derive(Debug, Drop)]
+pub struct Source {
+    pub imports: Vec<Import>,
+    pub body: Option<u32>,
+    pub number: usize,
+}
+
+/// A file with its name, of whose imports so many were taken.
+#[derive(Debug, Drop)]
+pub struct File {
+    pub name: Str,
+    pub source: Source,
+    pub taken: usize,
+}
+
+/// Why a file is not loaded: a code at a place of this file.
+#[derive(Debug, Drop)]
+pub struct Refused {
+    pub file: Str,
+    pub code: Code,
+    pub place: u32,
+}
+
+/// What one step of loading comes to.
+#[derive(Debug, Drop)]
+pub enum Step {
+    /// An import was taken, or a file is done.
+    Taken,
+    /// The file of this import is to be read.
+    Wanted(Import),
+    /// The query is refused.
+    Refused(Refused),
+    /// All files are done.
+    Done,
+}
+
+/// A query that is being loaded: the files that are under way, the innermost last, and those that
+/// are done, in order.
+#[derive(Debug, Drop)]
+pub struct Loading {
+    pub path: Vec<File>,
+    pub done: Vec<File>,
+}
+
+/// A query that was read, before its first import is taken.
+pub fn start_loading(alloc: Global, name: Str, source: Source) -> Result<Loading, NoMemory>
+    ensures { IfOk result (λ loading. state_of loading
+        ≡ record { path = begun name (source_view source) ∷ []; done = [] }) }
+{
+    let path = vec![in alloc;
+        File {
+            name,
+            source,
+            taken: 0
+        },
+    ]?;
+    let done = Vec::new(alloc);
+    Ok(Loading { path, done })
+}
+
+/// A library that was wanted and read goes under way.
+pub fn add_library(loading: &mut Loading, name: Str, source: Source) -> Result<(), NoMemory>
+    ensures { OnOk result (state_of loading.new ≡ record {
+      path = begun name (source_view source) ∷ (state_of loading.old).path;
+      done = (state_of loading.old).done;
+    }) }
+{
+    loading.path.push(File {
+        name,
+        source,
+        taken: 0,
+    })?;
+    Ok(())
+}
+
+/// Takes the next import of the innermost file, or finishes that file.
+pub fn next_step(loading: &mut Loading) -> Result<Step, NoMemory>
+    ensures { IfOk result (λ s. IsStep (state_of loading.old) (state_of loading.new) s) }
+{
+    let Some(file) = loading.path.pop() else {
+        return Ok(Step::Done);
+    };
+    if file.taken >= file.source.imports.len() {
+        loading.done.push(file)?;
+        return Ok(Step::Taken);
+    }
+    let import = copy_of(&file.source.imports[file.taken])?;
+    if import.name == file.name || has_file(&loading.path, &import.name) {
+        return Ok(Step::Refused(refuse(&file, Code::PJST0006, import.place)?));
+    }
+    if has_file(&loading.done, &import.name) {
+        loading.path.push(after_import(file))?;
+        return Ok(Step::Taken);
+    }
+    if loading.path.len() + loading.done.len() + 1 >= MOST_FILES {
+        return Ok(Step::Refused(refuse(&file, Code::PJST0008, import.place)?));
+    }
+    loading.path.push(after_import(file))?;
+    Ok(Step::Wanted(import))
+}
+
+fn copy_of(import: &Import) -> Result<Import, NoMemory>
+    ensures { IfOk result (λ i. i ≡ import.now) }
+{
+    let name = import.name.copy()?;
+    Ok(Import {
+        name,
+        place: import.place,
+    })
+}
+
+fn after_import(file: File) -> File
+    requires { file.taken < 2 ^ 64 - 1 }
+    ensures { result ≡ record file { taken = file.taken + 1 } }
+{
+    let File {
+        name,
+        source,
+        taken,
+    } = file;
+    File {
+        name,
+        source,
+        taken: taken + 1,
+    }
+}
+
+fn refuse(file: &File, code: Code, place: u32) -> Result<Refused, NoMemory>
+    ensures { IfOk result (λ r. IsRefused file.now.name code place r) }
+{
+    let file = file.name.copy()?;
+    Ok(Refused { file, code, place })
+}
+
+// Whether one of the files has this name.
+fn has_file(files: &[File], name: &Str) -> bool
+    ensures { result ≡ has_name name.now (file_names files.now) }
+{
+    for file in files {
+        if *name == file.name {
+            return true;
+        }
+    }
+    false
+}
