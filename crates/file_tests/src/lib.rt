@@ -7,4 +7,6 @@ mod inputs_and_sinks;
 #[cfg(test)]
 mod numbered_outputs;
 #[cfg(test)]
+mod piece_reader;
+#[cfg(test)]
 mod pieces;

@@ -11,18 +11,23 @@ use std::test::Fail;
 // A file that tells nothing. It counts its calls, of which one may fail, and gives at most so many
 // bytes at once.
 #[derive(Drop)]
-struct Tape {
+pub(crate) struct Tape {
     bytes: Vec<u8>,
     length: u64,
     most: usize,
     failing: u64,
     calls: u64,
-    asked: usize,
+    pub(crate) asked: usize,
     faults: u64,
 }
 
 impl Tape {
-    fn new(alloc: Global, bytes: &[u8], most: usize, failing: u64) -> Result<Tape, Fail> {
+    pub(crate) fn new(
+        alloc: Global,
+        bytes: &[u8],
+        most: usize,
+        failing: u64,
+    ) -> Result<Tape, Fail> {
         Ok(Tape {
             bytes: Vec::from_slice(alloc, bytes)?,
             length: bytes.len() as u64,
