@@ -1,11 +1,12 @@
 -- Ranges of a text, and what stands in them.
 use Rattle.std.proofs.Common.{◌≡◌, ◌≤◌, ◌<◌, ◌+◌, ◌*◌, ◌/◌, ◌%◌, ◌++◌, ℕ, zero, suc, List, [], ◌∷◌, Option, None, Some, Err, length, drop, take, map, get_or, refl, ap, sym, ◌∙◌, arith, append_assoc, append-nil, mul_comm, zero-mul, inl, inr, count_by}
-use Rattle.std.specs.Prelude.{slice_range, max, min}
+use Rattle.std.specs.Prelude.{All, slice_range, max, min}
 use Rattle.std.specs.List.{range_with_len}
 use Rattle.std.proofs.lemmas.Grind.{div_ceil_times}
-use Rattle.std.proofs.lemmas.List.FromFn.{map-range_with_len_more}
+use Rattle.std.proofs.lemmas.List.FromFn.{length-map-range_with_len, map-range_with_len_more}
 use Rattle.std.proofs.Math.Seq.{drop-length}
 use Rattle.std.proofs.lemmas.List.Folds.{drop_split}
+use Rattle.std.proofs.lemmas.List.Elements.{All-same, All-nil, All-cons}
 use Rattle.byte_lanes.specs.Bytes.{is_newline}
 use Rattle.outside.specs.Outputs.{Made}
 use Rattle.outside.specs.declared.outputs.CreateFault.{CreateFault}
@@ -53,6 +54,22 @@ ranged text each number =
     next_start_of : line_start ((number + 1) * each) text
         ≡ line_start (number * each) text + line_start each (drop (line_start (number * each) text) text)
     next_start_of = sym (next_start text each number (line_start (number * each) text) _ refl refl)
+
+pub ranges_within : (text : List ℕ) (each count : ℕ) (ranges : List (ℕ × ℕ))
+    → ranges ≡ map (part_range each text) (range_with_len 0 count) → All (IsRangeOf text) ranges
+ranges_within text each count ranges e =
+    All-same (IsRangeOf text) ranges _ e (all_within text each 0 count)
+  where
+    all_within : (text : List ℕ) (each from count : ℕ)
+        → All (IsRangeOf text) (map (part_range each text) (range_with_len from count))
+    all_within text each from zero = All-nil (IsRangeOf text)
+    all_within text each from (suc count) =
+        All-cons (IsRangeOf text) _ _ (ranged text each from) (all_within text each (from + 1) count)
+
+pub ranges_count : (text : List ℕ) (each count : ℕ) (ranges : List (ℕ × ℕ))
+    → ranges ≡ map (part_range each text) (range_with_len 0 count) → length ranges ≡ count
+ranges_count text each count ranges e =
+    ap (λ (l : List (ℕ × ℕ)). length l) e ∙ length-map-range_with_len (part_range each text) 0 count
 
 parts_join : (text : List ℕ) (each from count end : ℕ) → from + count ≡ end
     → joined (parts_from from text (map (part_range each text) (range_with_len from count)))

@@ -1,7 +1,7 @@
 //! Where the parts of a text begin and end.
 
-ghost use Rattle.std.specs.Prelude.{◌≡◌, ◌<◌, ◌≤◌, ◌+◌, ℕ, IfOk, drop, length, suc};
-ghost use Rattle.part_writer.specs.Parts.{line_start, part_ranges};
+ghost use Rattle.std.specs.Prelude.{◌≡◌, ◌<◌, ◌≤◌, ◌+◌, ℕ, All, IfOk, drop, length, suc};
+ghost use Rattle.part_writer.specs.Parts.{line_start, part_ranges, IsRangeOf};
 
 use byte_lanes::{count_newlines, first_newline};
 use item_tree::NoMemory;
@@ -39,7 +39,9 @@ fn behind_lines(text: &[u8], from: usize, lines: usize) -> usize
 /// do and at least one, but for the last ones.
 pub fn split_lines(alloc: Global, text: &[u8], count: u32) -> Result<Vec<(usize, usize)>, NoMemory>
     requires { 0 < count }
-    ensures { IfOk result (λ ranges. ranges.items ≡ part_ranges count text.now) }
+    ensures value { IfOk result (λ ranges. ranges.items ≡ part_ranges count text.now) }
+    ensures within { IfOk result (λ ranges. All (IsRangeOf text.now) ranges.items) }
+    ensures length { IfOk result (λ ranges. length ranges.items ≡ count) }
 {
     let each = count_newlines(text).div_ceil(count as usize).max(1);
     let mut ranges = Vec::with_capacity(alloc, count as usize)?;
