@@ -51,7 +51,7 @@ only_of_file : (act : Action) (name : List ℕ) (world : World) (file : Option (
 only_of_file act name world None a b e f = e ∙ sym f
 only_of_file act name world (Some query) a b is it = only_of_query act world query a b is it
 
-only_of_command : (world : World) (command : Option Command) (a b : Answer) → IsOfCommand world command a → IsOfCommand world command b → a ≡ b
+pub only_of_command : (world : World) (command : Option Command) (a b : Answer) → IsOfCommand world command a → IsOfCommand world command b → a ≡ b
 only_of_command world None a b e f = e ∙ sym f
 only_of_command world (Some (Query act name)) a b is it = only_of_file act name world (file_of world name) a b is it
 only_of_command world (Some (Trial number lines)) a b is it = only_of_query (action.Run false) (trial_world number lines) trial_query a b is it

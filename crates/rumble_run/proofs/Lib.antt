@@ -7,3 +7,6 @@ pub mod Answered
 pub mod Opened
 pub mod Endings
 pub mod LoneInputs
+pub mod Parting
+pub mod Settled
+pub mod PrintedLines

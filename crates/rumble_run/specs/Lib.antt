@@ -5,4 +5,7 @@ pub mod Answer
 pub mod Opens
 pub mod Laws
 pub mod Ends
+pub mod Prepared
+pub mod Parts
+pub mod Headline
 pub mod inside

@@ -6,3 +6,4 @@ pub mod Held
 pub mod Seen
 pub mod Printing
 pub mod LoneInput
+pub mod Parted

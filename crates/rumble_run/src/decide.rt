@@ -156,8 +156,8 @@ fn of_query<I: Inputs>(
     }
 }
 
-// What the query of this name comes to.
-fn of_file<I: Inputs>(
+/// What the query of this name comes to.
+pub(crate) fn of_file<I: Inputs>(
     alloc: Global,
     action: Action,
     name: &Str,

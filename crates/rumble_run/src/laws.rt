@@ -1,7 +1,10 @@
 //! Laws of what a command line comes to. Each holds of all queries: a call brings it to a proof,
 //! and does nothing when it runs.
 
-ghost use Rattle.std.specs.Prelude.{ℕ, List};
+ghost use Rattle.std.specs.Prelude.{◌≡◌, ◌<◌, ℕ, List};
+ghost use Rattle.item_tree.specs.Datum.{Datum};
+ghost use Rattle.part_writer.specs.Parts.{parts_of, joined};
+ghost use Rattle.rumble_run.specs.Answer.{output_of};
 ghost use Rattle.outside.specs.World.{World};
 ghost use Rattle.rumble_run.specs.Laws.{HasOneFront, HasOneAnswer, OpensOneList};
 
@@ -19,3 +22,11 @@ pub fn one_answer()
 pub fn opens_one_list()
     ensures { (words : List (List ℕ)) → (world : World) → OpensOneList words world }
 {}
+
+/// The parts of what is printed, put together in order, are what is printed, however many they are.
+pub fn parts_are_output()
+    ensures { (count : ℕ) → (items : List Datum) → 0 < count
+        → joined (parts_of count (output_of items)) ≡ output_of items }
+{
+    part_writer::laws::parts_are_whole();
+}

@@ -2,11 +2,15 @@
 //! and a status comes out.
 #![tactic(auto)]
 
-ghost use Rattle.std.specs.Prelude.{◌≡◌, ◌≢◌, ◌≤◌, ◌<◌, ◌⊎◌, ℕ, List, None, length};
+ghost use Rattle.std.specs.Prelude.{◌≡◌, ◌≢◌, ◌≤◌, ◌<◌, ◌+◌, ◌⊎◌, ℕ, List, None, false, length, map};
+ghost use Rattle.std.specs.Str.{encode_utf8_all};
 ghost use Rattle.outside.specs.Counted.{Rose};
 ghost use Rattle.rumble_run.specs.Answer.{OfAnswer};
 ghost use Rattle.rumble_run.specs.Commands.{command_of};
 ghost use Rattle.rumble_run.specs.Ends.{StatusBy, OutBy, err_by, HasText, Wrote, Calm, Completes, FaultsRose, MissesRose, OpensBy, OpenedBy, ChecksAlone, IsBalanced, NoCountFalls};
+ghost use Rattle.run_words.specs.PartsAsked.{begins_parts};
+ghost use Rattle.rumble_run.specs.Headline.{RunsAsRumble, RunsParts};
+ghost use Rattle.rumble_run.specs.Parts.{AsksParts};
 ghost use Rattle.rumble_run.specs.Opens.{OfOpened};
 
 mod command;
@@ -19,6 +23,8 @@ mod items;
 pub mod laws;
 mod lone_input;
 mod mark;
+mod parts;
+mod preparing;
 mod print;
 mod read;
 mod status;
@@ -27,9 +33,12 @@ mod trial;
 
 use crate::decide::decide;
 use crate::finish::{finish, tell};
+use crate::parts::run_parts;
 use crate::status::Stop;
 use item_tree::Str;
-use outside::{Gate, Inputs, Sink};
+use outside::{Gate, Inputs, Outputs, Sink};
+pub use preparing::prepare;
+use run_words::begins_parts;
 pub use status::Status;
 use std::alloc::Global;
 use std::sync::Wait;
@@ -101,5 +110,58 @@ pub fn rumble<R: Threads + Wait + Sync, I: Inputs, O: Sink, E: Sink, G: Gate>(
             tell(err, "no memory\n");
             Status::NoMemory
         }
+    }
+}
+
+/// Does what the words ask, and answers how it ended. Where the first word is `parts`, the result of
+/// a query is written to numbered outputs, each of whole lines, and then the list of them to `out`.
+/// All other words are done as `rumble` does them.
+pub fn rumble_parts<R: Threads + Wait + Sync, I: Inputs, P: Outputs, O: Sink, E: Sink, G: Gate>(
+    rt: &R,
+    alloc: Global,
+    words: &[Str],
+    inputs: &mut I,
+    outputs: &mut P,
+    out: &mut O,
+    err: &mut E,
+    gate: &G,
+) -> Status
+    // Words of any other command: all clauses of `rumble`, and no part is made.
+    ensures others { begins_parts (map encode_utf8_all words.now) ≡ false →
+        RunsAsRumble words.now result
+        (record { world = I.world inputs.old; counts = I.counts inputs.old })
+        (record { world = I.world inputs.new; counts = I.counts inputs.new })
+        (record { wrote = O.wrote out.old; faults = O.faults out.old })
+        (record { wrote = O.wrote out.new; faults = O.faults out.new })
+        (record { wrote = E.wrote err.old; faults = E.faults err.old })
+        (record { wrote = E.wrote err.new; faults = E.faults err.new }) }
+    ensures unmade { begins_parts (map encode_utf8_all words.now) ≡ false →
+        outputs.new ≡ outputs.old }
+
+    // A run with parts: the answer is that of the run, and its output stands in the parts.
+    ensures parts { AsksParts words.now → RunsParts words.now result
+        (record { world = I.world inputs.old; counts = I.counts inputs.old })
+        (record { world = I.world inputs.new; counts = I.counts inputs.new })
+        (record {
+          made = P.made outputs.old;
+          faults = P.faults outputs.old;
+          listed = O.wrote out.old;
+          list_faults = O.faults out.old;
+        })
+        (record {
+          made = P.made outputs.new;
+          faults = P.faults outputs.new;
+          listed = O.wrote out.new;
+          list_faults = O.faults out.new;
+        })
+        (record { wrote = E.wrote err.old; faults = E.faults err.old })
+        (record { wrote = E.wrote err.new; faults = E.faults err.new }) }
+    ensures balanced { P.created outputs.new + P.finished outputs.old
+        ≡ P.created outputs.old + P.finished outputs.new }
+{
+    if begins_parts(words) {
+        run_parts(alloc, words, inputs, outputs, out, err)
+    } else {
+        rumble(rt, alloc, words, inputs, out, err, gate)
     }
 }

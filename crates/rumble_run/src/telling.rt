@@ -6,6 +6,7 @@ ghost use Rattle.std.specs.Str.{encode_utf8_all};
 ghost use Rattle.item_tree.specs.Item.{datums};
 ghost use Rattle.query_tree.specs.Compiled.{bound_trees};
 ghost use Rattle.rumble_run.specs.Answer.{says, writes, writes_items, prints, refused, raised, fault_text, clause_text, spot_text, accepted, explained, usage, stats_text};
+ghost use Rattle.rumble_run.specs.Parts.{parts_usage};
 ghost use Rattle.rumble_run.specs.inside.Seen.{answer_of};
 
 use crate::ending::Ending;
@@ -20,6 +21,9 @@ use text_places::line_column;
 
 // The words that the program knows.
 const USAGE: &str = "usage: rumble run QUERY | check QUERY | explain QUERY | trial NUMBER LINES\n";
+
+// The words of a run with parts.
+const PARTS_USAGE: &str = "usage: rumble parts QUERY COUNT\n";
 
 /// What `check` writes for a query that is accepted.
 const ACCEPTED: &[u8] = b"accepted\n";
@@ -40,6 +44,14 @@ pub(crate) fn tells_usage(alloc: Global) -> Result<Ending, AllocError>
     ensures { IfOk result (λ e. answer_of e ≡ usage) }
 {
     let text = String::from_str(alloc, USAGE)?;
+    Ok(says(alloc, Status::Usage, text))
+}
+
+/// The words begin with `parts`, and ask for nothing.
+pub(crate) fn tells_parts_usage(alloc: Global) -> Result<Ending, AllocError>
+    ensures { IfOk result (λ e. answer_of e ≡ parts_usage) }
+{
+    let text = String::from_str(alloc, PARTS_USAGE)?;
     Ok(says(alloc, Status::Usage, text))
 }
 

@@ -1,0 +1,301 @@
+//! Runs whose result is written as numbered parts.
+
+ghost use Rattle.std.specs.Prelude.{◌≡◌, ◌≢◌, ◌≤◌, ◌<◌, ◌+◌, ◌⊎◌, ℕ, List, All, None, Some, length, IfOk, IfSome, IsErrOf, string_bytes};
+ghost use Rattle.part_list.specs.Lists.{list_of};
+ghost use Rattle.part_writer.specs.Parts.{parts_from, parts_of, IsRangeOf};
+ghost use Rattle.rumble_run.specs.Ends.{StatusBy, Completes, Calm, FaultsRose, MissesRose, NoCountFalls, IsBalanced, err_by, Wrote, OpensBy};
+ghost use Rattle.rumble_run.specs.Parts.{IsPartsAnswer, OfPartsAnswer, HasPartsText, parts_task, parts_count, parts_usage, output_parts, run_of_parts, PartsBy};
+ghost use Rattle.rumble_run.specs.inside.Parted.{IsPartsShaped, IsWriting, PartsEnd};
+ghost use Rattle.rumble_run.specs.inside.Reads.{Leaves};
+ghost use Rattle.rumble_run.specs.inside.Seen.{answer_of, IsSilent};
+
+use crate::command::Action;
+use crate::decide::of_file;
+use crate::ending::Ending;
+use crate::finish::tell;
+use crate::status::{Status, Stop};
+use crate::telling::tells_parts_usage;
+use item_tree::{NoMemory, Str};
+use outside::{CreateFault, Inputs, Outputs, Sink, write_all};
+use part_list::list_parts;
+use part_writer::{split_lines, write_parts};
+use run_words::{PartsTask, WordFault, read_parts};
+use std::alloc::Global;
+
+/// What a run comes to, with how many parts its output is written as.
+#[derive(Debug, Drop)]
+pub(crate) struct Parted {
+    pub ending: Ending,
+    pub count: u32,
+}
+
+// What the words ask for.
+fn task_asked(alloc: Global, words: &[Str]) -> Result<Option<PartsTask>, NoMemory>
+    ensures task { IfOk result (λ task. task ≡ parts_task words.now) }
+    ensures some { IfOk result (λ task. IfSome task (λ t. 1 ≤ t.count)) }
+    ensures most { IfOk result (λ task. IfSome task (λ t. t.count ≤ 1000)) }
+{
+    match read_parts(alloc, words) {
+        Ok(task) => Ok(Some(task)),
+        Err(WordFault::Usage) => Ok(None),
+        Err(WordFault::NoMemory) => Err(NoMemory),
+    }
+}
+
+/// What the words come to. All of it is made in memory before anything is written.
+pub(crate) fn decide_parts<I: Inputs>(
+    alloc: Global,
+    words: &[Str],
+    inputs: &mut I,
+) -> Result<Parted, Stop>
+    ensures world { I.world inputs.new ≡ I.world inputs.old }
+    ensures value { IfOk result (λ p. IfSome (I.world inputs.old) (λ w.
+        IsPartsAnswer words.now w (answer_of p.ending))) }
+    ensures count { IfOk result (λ p. p.count ≡ parts_count (parts_task words.now)) }
+    ensures some { IfOk result (λ p. 1 ≤ p.count) }
+    ensures most { IfOk result (λ p. p.count ≤ 1000) }
+    ensures shape { IfOk result (λ p.
+        IsPartsShaped (parts_task words.now) (answer_of p.ending)) }
+    ensures unread { IsErrOf result Stop.ReadFault → parts_task words.now ≢ None }
+    ensures usage { parts_task words.now ≡ None →
+        IfOk result (λ p. answer_of p.ending ≡ parts_usage) }
+    ensures counts { Leaves result (I.counts inputs.old) (I.counts inputs.new) }
+    ensures opens { IfOk result (λ p. OpensBy (run_of_parts (parts_task words.now)) p.ending.status
+        (I.counts inputs.old) (I.counts inputs.new)) }
+{
+    match task_asked(alloc, words)? {
+        None => {
+            let ending = tells_parts_usage(alloc)?;
+            Ok(Parted { ending, count: 1 })
+        }
+        Some(task) => {
+            let action = Action::Run { stats: false };
+            match of_file(alloc, action, &task.query, inputs) {
+                Ok(ending) => Ok(Parted {
+                    ending,
+                    count: task.count,
+                }),
+                Err(stop) => Err(stop),
+            }
+        }
+    }
+}
+
+// Writes the parts, and then the list of them, without taking memory but for the outputs.
+fn write_listed<P: Outputs, O: Sink>(
+    text: &[u8],
+    ranges: &[(usize, usize)],
+    list: &[u8],
+    outputs: &mut P,
+    out: &mut O,
+) -> Status
+    requires few { length ranges.now ≤ 1000 }
+    requires within { All (IsRangeOf text.now) ranges.now }
+    requires list { list.now ≡ list_of (parts_from 0 text.now ranges.now) }
+    ensures parts { PartsBy (parts_from 0 text.now ranges.now) result
+        (record {
+          made = P.made outputs.old;
+          faults = P.faults outputs.old;
+          listed = O.wrote out.old;
+          list_faults = O.faults out.old;
+        })
+        (record {
+          made = P.made outputs.new;
+          faults = P.faults outputs.new;
+          listed = O.wrote out.new;
+          list_faults = O.faults out.new;
+        }) }
+    ensures writing { IsWriting result }
+    ensures balanced { P.created outputs.new + P.finished outputs.old
+        ≡ P.created outputs.old + P.finished outputs.new }
+{
+    match write_parts(text, ranges, outputs) {
+        Err(CreateFault::Failed) => Status::WriteFault,
+        Err(CreateFault::NoMemory) => Status::NoMemory,
+        Ok(()) => match write_all(out, list) {
+            Ok(()) => Status::Done,
+            Err(_) => Status::WriteFault,
+        },
+    }
+}
+
+// Where the parts of an output stand, and the list of them.
+fn cut_and_list(
+    alloc: Global,
+    text: &[u8],
+    count: u32,
+) -> Result<(Vec<(usize, usize)>, Vec<u8>), NoMemory>
+    requires some { 1 ≤ count }
+    requires most { count ≤ 1000 }
+    ensures few { IfOk result (λ r. length r.0.items ≤ 1000) }
+    ensures within { IfOk result (λ r. All (IsRangeOf text.now) r.0.items) }
+    ensures parts { IfOk result (λ r. parts_from 0 text.now r.0.items ≡ parts_of count text.now) }
+    ensures list { IfOk result (λ r. r.1.items ≡ list_of (parts_from 0 text.now r.0.items)) }
+{
+    let ranges = split_lines(alloc, text, count)?;
+    let list = list_parts(alloc, text, &ranges)?;
+    Ok((ranges, list))
+}
+
+// Writes an output as parts.
+fn write_output<P: Outputs, O: Sink>(
+    alloc: Global,
+    text: &[u8],
+    count: u32,
+    outputs: &mut P,
+    out: &mut O,
+) -> Status
+    requires some { 1 ≤ count }
+    requires most { count ≤ 1000 }
+    ensures parts { PartsBy (parts_of count text.now) result
+        (record {
+          made = P.made outputs.old;
+          faults = P.faults outputs.old;
+          listed = O.wrote out.old;
+          list_faults = O.faults out.old;
+        })
+        (record {
+          made = P.made outputs.new;
+          faults = P.faults outputs.new;
+          listed = O.wrote out.new;
+          list_faults = O.faults out.new;
+        }) }
+    ensures writing { IsWriting result }
+    ensures balanced { P.created outputs.new + P.finished outputs.old
+        ≡ P.created outputs.old + P.finished outputs.new }
+{
+    match cut_and_list(alloc, text, count) {
+        Ok((ranges, list)) => write_listed(text, &ranges, &list, outputs, out),
+        Err(NoMemory) => Status::NoMemory,
+    }
+}
+
+// The text for the errors, given the ending's.
+fn err_of<'a>(text: &'a str, status: Status) -> &'a str
+    ensures { result.now ≡ err_by text.now status }
+{
+    match status {
+        Status::ReadFault => "read fault\n",
+        Status::WriteFault => "write fault\n",
+        Status::NoMemory => "no memory\n",
+        _ => text,
+    }
+}
+
+/// Writes what was decided, and answers the status that it comes to.
+pub(crate) fn finish_parts<P: Outputs, O: Sink, E: Sink>(
+    alloc: Global,
+    parted: &Parted,
+    outputs: &mut P,
+    out: &mut O,
+    err: &mut E,
+) -> Status
+    requires some { 1 ≤ parted.now.count }
+    requires most { parted.now.count ≤ 1000 }
+    requires silent { IsSilent parted.now.ending.out.items parted.now.ending.status }
+    ensures status { PartsEnd parted.now.ending.status result }
+    ensures parts { PartsBy (parts_of parted.now.count parted.now.ending.out.items) result
+        (record {
+          made = P.made outputs.old;
+          faults = P.faults outputs.old;
+          listed = O.wrote out.old;
+          list_faults = O.faults out.old;
+        })
+        (record {
+          made = P.made outputs.new;
+          faults = P.faults outputs.new;
+          listed = O.wrote out.new;
+          list_faults = O.faults out.new;
+        }) }
+    ensures text { Wrote (err_by (string_bytes parted.now.ending.err) result) (E.wrote err.old)
+        (E.wrote err.new) (E.faults err.old) (E.faults err.new) }
+    ensures balanced { P.created outputs.new + P.finished outputs.old
+        ≡ P.created outputs.old + P.finished outputs.new }
+{
+    let status = match parted.ending.status {
+        Status::Done => write_output(alloc, &parted.ending.out, parted.count, outputs, out),
+        status => status,
+    };
+    tell(err, err_of(parted.ending.err.as_str(), status));
+    status
+}
+
+/// Does what words ask whose first is `parts`.
+pub(crate) fn run_parts<I: Inputs, P: Outputs, O: Sink, E: Sink>(
+    alloc: Global,
+    words: &[Str],
+    inputs: &mut I,
+    outputs: &mut P,
+    out: &mut O,
+    err: &mut E,
+) -> Status
+    ensures status { OfPartsAnswer (I.world inputs.old) words.now (λ answer.
+        StatusBy answer result) }
+    ensures parts { OfPartsAnswer (I.world inputs.old) words.now (λ answer.
+        PartsBy (output_parts words.now answer.out) result
+        (record {
+          made = P.made outputs.old;
+          faults = P.faults outputs.old;
+          listed = O.wrote out.old;
+          list_faults = O.faults out.old;
+        })
+        (record {
+          made = P.made outputs.new;
+          faults = P.faults outputs.new;
+          listed = O.wrote out.new;
+          list_faults = O.faults out.new;
+        })) }
+    ensures text { OfPartsAnswer (I.world inputs.old) words.now (λ answer.
+        Wrote (err_by answer.err result) (E.wrote err.old) (E.wrote err.new)
+        (E.faults err.old) (E.faults err.new)) }
+    ensures completes { Calm (I.counts inputs.old).faults (I.counts inputs.new).faults
+        → Calm (P.faults outputs.old) (P.faults outputs.new)
+        → Calm (O.faults out.old) (O.faults out.new)
+        → OfPartsAnswer (I.world inputs.old) words.now (λ answer. Completes answer result) }
+
+    ensures untold_parts { (bytes : List ℕ) × PartsBy (output_parts words.now bytes) result
+        (record {
+          made = P.made outputs.old;
+          faults = P.faults outputs.old;
+          listed = O.wrote out.old;
+          list_faults = O.faults out.old;
+        })
+        (record {
+          made = P.made outputs.new;
+          faults = P.faults outputs.new;
+          listed = O.wrote out.new;
+          list_faults = O.faults out.new;
+        }) }
+    ensures untold_text { (text : List ℕ) × HasPartsText (parts_task words.now) text result
+        × Wrote text (E.wrote err.old) (E.wrote err.new) (E.faults err.old) (E.faults err.new) }
+
+    ensures usage { result ≡ Status.Usage → parts_task words.now ≡ None }
+    ensures only_usage { parts_task words.now ≡ None →
+        (result ≡ Status.Usage) ⊎ (result ≡ Status.NoMemory) }
+    ensures no_query { result ≡ Status.NoQuery →
+        MissesRose (I.counts inputs.old) (I.counts inputs.new) }
+    ensures read_fault { result ≡ Status.ReadFault →
+        FaultsRose (I.counts inputs.old) (I.counts inputs.new) }
+    ensures read_first { (I.counts inputs.old).faults < (I.counts inputs.new).faults →
+        (result ≡ Status.ReadFault) ⊎ (result ≡ Status.NoMemory) }
+
+    ensures opens { OpensBy (run_of_parts (parts_task words.now)) result (I.counts inputs.old)
+        (I.counts inputs.new) }
+    ensures closed { IsBalanced (I.counts inputs.old) (I.counts inputs.new) }
+    ensures rises { NoCountFalls (I.counts inputs.old) (I.counts inputs.new) }
+    ensures world { I.world inputs.new ≡ I.world inputs.old }
+    ensures balanced { P.created outputs.new + P.finished outputs.old
+        ≡ P.created outputs.old + P.finished outputs.new }
+{
+    match decide_parts(alloc, words, inputs) {
+        Ok(parted) => finish_parts(alloc, &parted, outputs, out, err),
+        Err(Stop::ReadFault) => {
+            tell(err, "read fault\n");
+            Status::ReadFault
+        }
+        Err(Stop::NoMemory) => {
+            tell(err, "no memory\n");
+            Status::NoMemory
+        }
+    }
+}
