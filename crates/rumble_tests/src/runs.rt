@@ -1,8 +1,8 @@
 //! Runs of the top call, and rows of tables that tell what a query leaves.
 
 use item_tree::Str;
-use outside::{Fails, FreeGate, Inputs, MemInputs, MemSink, names_differ};
-use rumble_run::{Status, rumble};
+use outside::{Fails, FreeGate, Inputs, MemInputs, MemSink, Outputs, names_differ};
+use rumble_run::{Status, rumble, rumble_parts};
 use std::alloc::Global;
 use std::process::Abort;
 use std::sync::Wait;
@@ -65,6 +65,31 @@ pub(crate) fn run_over<R: Threads + Wait + Sync, I: Inputs + Drop>(
         alloc,
         &words,
         &mut inputs,
+        &mut out,
+        &mut err,
+        &FreeGate,
+    );
+    Ok(Outcome { status, out, err })
+}
+
+/// The same, where a result may be written as parts.
+pub(crate) fn run_parts_over<R: Threads + Wait + Sync, I: Inputs + Drop, P: Outputs>(
+    rt: &R,
+    alloc: Global,
+    words: &[&str],
+    mut inputs: I,
+    outputs: &mut P,
+    room: (usize, usize),
+) -> Result<Outcome, Fail> {
+    let words = texts(alloc, words)?;
+    let mut out = MemSink::new(alloc, room.0, 7)?;
+    let mut err = MemSink::new(alloc, room.1, 7)?;
+    let status = rumble_parts(
+        rt,
+        alloc,
+        &words,
+        &mut inputs,
+        outputs,
         &mut out,
         &mut err,
         &FreeGate,
