@@ -3,6 +3,7 @@
 print_help() {
   cat << 'HELP'
 usage: rumble run QUERY            prints the value of the query in the file QUERY
+       rumble parts QUERY COUNT    writes the value as COUNT files, part-0000 and so on, and lists them
        rumble check QUERY          says whether that query is accepted, and runs nothing
        rumble explain QUERY        prints which parts of that query can run over pieces of an input
        rumble trial NUMBER LINES   prints what a fixed query gives of lines made from a number

@@ -74,7 +74,7 @@ check_words() {
   case $verb in
     '') return ;;
     run | check | explain) ;;
-    trial) wanted=2 ;;
+    trial | parts) wanted=2 ;;
     *) say "$verb: no such word; rumble --help has all words" && return ;;
   esac
   shift
@@ -94,6 +94,8 @@ check_words() {
   [ "$arguments" -ne "$wanted" ] || return 0
   if [ "$verb" = trial ]; then
     say "trial takes two words, NUMBER and LINES"
+  elif [ "$verb" = parts ]; then
+    say "parts takes two words, QUERY and COUNT"
   else
     say "$verb takes one word, QUERY; a query names its inputs itself, as json-lines(\"FILE\")"
   fi
@@ -125,7 +127,7 @@ check_option() {
 
 is_option_of() {
   case $1:$2 in
-    run:* | trial:--workers | trial:--partition) return 0 ;;
+    run:* | trial:--workers | trial:--partition | parts:--workers | parts:--partition) return 0 ;;
   esac
   return 1
 }

@@ -19,17 +19,18 @@ _rumble() {
       ;;
   esac
   if [ "$COMP_CWORD" -eq 1 ]; then
-    mapfile -t COMPREPLY < <(compgen -W 'run check explain trial -e lines --build --program --help --version' -- "$word")
+    mapfile -t COMPREPLY < <(compgen -W 'run parts check explain trial -e lines --build --program --help --version' -- "$word")
   elif [[ $word == -* ]]; then
     case $verb in
       run) mapfile -t COMPREPLY < <(compgen -W '-r --raw --let --let-json --stats --workers --partition --mode' -- "$word") ;;
+      parts) mapfile -t COMPREPLY < <(compgen -W '--workers --partition' -- "$word") ;;
       check) mapfile -t COMPREPLY < <(compgen -W '--let --let-json' -- "$word") ;;
       explain) mapfile -t COMPREPLY < <(compgen -W '' -- "$word") ;;
       trial) mapfile -t COMPREPLY < <(compgen -W '--workers --partition' -- "$word") ;;
       -e) mapfile -t COMPREPLY < <(compgen -W '-r --raw --let --let-json --stats --workers --partition --mode' -- "$word") ;;
       lines) mapfile -t COMPREPLY < <(compgen -W '--all --good' -- "$word") ;;
     esac
-  elif [[ $verb == @(run|check|explain|-e|lines) ]]; then
+  elif [[ $verb == @(run|parts|check|explain|-e|lines) ]]; then
     mapfile -t COMPREPLY < <(compgen -f -- "$word")
   fi
 }

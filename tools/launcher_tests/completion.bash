@@ -35,7 +35,7 @@ users.jsonl|-e 1 u
 --good|lines --g
 users.jsonl|lines --all u
 ROWS
-  expect "for an empty word" "run check explain trial -e lines --build --program --help --version" "$(offered rumble '')"
+  expect "for an empty word" "run parts check explain trial -e lines --build --program --help --version" "$(offered rumble '')"
   expect "for a text" "" "$(offered rumble -e 'o')"
   type groff > /dev/null 2>&1 || return 0
   expect "what is wrong with the manual page" "" "$(groff -man -ww -z "$repository/share/rumble.1" 2>&1)"

@@ -26,6 +26,7 @@ test_wrong_words() {
 |run q --workers=+1 --mode auto --partition 1073741824 --stats
 |run --workers 007 -- -q
 |trial 1 2 --workers 1 --partition=1
+|parts q 2 --workers 1 --partition=1
 --workers 100: 1 to 64|run q --workers 100
 --workers 0: 1 to 64|run --workers=0 q
 --workers 99999999999999999999: 1 to 64|run q --workers 99999999999999999999
@@ -45,6 +46,8 @@ ru: no such word; rumble --help has all words|ru q
 --workers: no option of explain|explain q --workers 2
 explain takes one word, QUERY; a query names its inputs itself, as json-lines("FILE")|explain
 trial takes two words, NUMBER and LINES|trial 1
+parts takes two words, QUERY and COUNT|parts q
+--mode: no option of parts|parts q 2 --mode auto
 run takes one word, QUERY; a query names its inputs itself, as json-lines("FILE")|run q f
 check takes one word, QUERY; a query names its inputs itself, as json-lines("FILE")|check
 --build stands alone|--build x

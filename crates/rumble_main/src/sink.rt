@@ -1,10 +1,10 @@
-ghost use Rattle.std.specs.Prelude.{None};
+ghost use Rattle.std.specs.Prelude.{◌≡◌, nat_lt, None};
 
 use outside::{Failed, Sink};
 use std::io;
 use std::io::Write;
 
-/// A standard stream of the program. It counts its faults and tells no bytes, and its label is 0.
+/// A standard stream of the program, or a file. It counts its faults and tells no bytes, and its label is 0.
 #[derive(Drop)]
 pub struct StdSink<W> {
     stream: W,
@@ -13,8 +13,17 @@ pub struct StdSink<W> {
 
 impl<W> StdSink<W> {
     /// The count begins at 0.
-    pub fn new(stream: W) -> StdSink<W> {
+    pub fn new(stream: W) -> StdSink<W>
+        ensures { result.faults ≡ 0 }
+    {
         StdSink { stream, faults: 0 }
+    }
+
+    /// Whether a write has failed.
+    pub fn has_failed(&self) -> bool
+        ensures { result ≡ nat_lt 0 self.now.faults }
+    {
+        self.faults > 0
     }
 }
 
