@@ -157,6 +157,7 @@ fn bound_nothing<'a>(
 
 /// The tuples that a `for` over these items makes of a tuple, behind others. No tuple is copied for
 /// the last item.
+#[inline(never)]
 pub(crate) fn bound_tuples<'a>(
     alloc: Global,
     by: &Binding<'_>,

@@ -115,6 +115,7 @@ impl<F: for<'s, 'a> Fn(Global, &BoundExpr, &Env<'s, 'a>) -> Result<Value<'a>, Ev
     }
 
     #[tactic(auto, unfolding(query_meaning::specs::Clauses::let_tuples))]
+    #[inline(never)]
     fn let_tuples<'a>(
         &self,
         variable: &Placed<Slot>,
@@ -137,6 +138,7 @@ impl<F: for<'s, 'a> Fn(Global, &BoundExpr, &Env<'s, 'a>) -> Result<Value<'a>, Ev
     }
 
     #[tactic(auto, unfolding(query_meaning::specs::Clauses::where_tuples))]
+    #[inline(never)]
     fn where_tuples<'a>(
         &self,
         test: &BoundExpr,

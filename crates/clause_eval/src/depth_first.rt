@@ -29,6 +29,7 @@ impl<F: for<'s, 'a> Fn(Global, &BoundExpr, &Env<'s, 'a>) -> Result<Value<'a>, Ev
 > {
     // What a `let` gives for a tuple.
     #[tactic(auto, unfolding(query_meaning::specs::Clauses::let_tuples))]
+    #[inline(never)]
     fn let_given<'a>(
         &self,
         variable: &Placed<Slot>,
@@ -49,6 +50,7 @@ impl<F: for<'s, 'a> Fn(Global, &BoundExpr, &Env<'s, 'a>) -> Result<Value<'a>, Ev
 
     // What a `where` gives for a tuple.
     #[tactic(auto, unfolding(query_meaning::specs::Clauses::where_tuples))]
+    #[inline(never)]
     fn where_given<'a>(
         &self,
         test: &BoundExpr,
@@ -143,6 +145,7 @@ impl<F: for<'s, 'a> Fn(Global, &BoundExpr, &Env<'s, 'a>) -> Result<Value<'a>, Ev
     }
 
     // One tuple more at `return`.
+    #[inline(never)]
     fn return_step<'a>(
         &self,
         number: u32,

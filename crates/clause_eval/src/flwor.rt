@@ -24,6 +24,7 @@ impl<F: for<'s, 'a> Fn(Global, &BoundExpr, &Env<'s, 'a>) -> Result<Value<'a>, Ev
 > {
     /// A clause of this number behind others.
     #[tactic(auto, using(query_tree::proofs::Layers::layers))]
+    #[inline(never)]
     pub fn clause<'a>(
         &self,
         number: u32,

@@ -125,6 +125,7 @@ impl<F: for<'s, 'a> Fn(Global, &BoundExpr, &Env<'s, 'a>) -> Result<Value<'a>, Ev
 
     /// The tuples that narrow clauses give.
     #[tactic(auto, using(crate::proofs::NarrowRuns::tuples_of_came))]
+    #[inline(never)]
     pub(crate) fn narrow_tuples<'a>(
         &self,
         number: u32,

@@ -107,6 +107,7 @@ fn joined<'a>(alloc: Global, before: Value<'a>, value: Value<'a>) -> Result<Valu
 }
 
 /// Items come out, where all is known.
+#[inline(never)]
 pub(crate) fn put_items<'a>(
     alloc: Global,
     value: Value<'a>,
@@ -131,6 +132,7 @@ pub(crate) fn put_items<'a>(
 }
 
 /// Nothing has been run at this limit. All clauses are run where it is `full`.
+#[inline(never)]
 pub(crate) fn opening<'a>(
     alloc: Global,
     first: u32,
