@@ -25,6 +25,8 @@ pub struct FileInputs<'a, R> {
 #[derive(Drop)]
 pub struct FileInput {
     source: Source,
+    // The length that was last told. Whoever asked for it counts on that many bytes.
+    told: u64,
     faults: u64,
 }
 
@@ -49,6 +51,19 @@ impl<'a, R> FileInputs<'a, R> {
     }
 }
 
+// Whether there can be no file of a name, by what an open of it met: nothing, a file where a folder
+// must be, a name that is too long or has a NUL, links in a circle.
+fn is_no_file(kind: io::ErrorKind) -> bool {
+    matches!(
+        kind,
+        io::ErrorKind::NotFound
+            | io::ErrorKind::NotADirectory
+            | io::ErrorKind::InvalidFilename
+            | io::ErrorKind::InvalidInput
+            | io::ErrorKind::FilesystemLoop
+    )
+}
+
 // A file of the system that tells a length is read where it stands, and any other is read whole.
 fn open_source<R: Files<File = File>>(
     rt: &R,
@@ -60,7 +75,7 @@ fn open_source<R: Files<File = File>>(
     }
     let mut file = match fs::open(rt, name) {
         Ok(file) => file,
-        Err(fault) if fault.kind() == io::ErrorKind::NotFound => return Err(OpenFault::Missing),
+        Err(fault) if is_no_file(fault.kind()) => return Err(OpenFault::Missing),
         Err(_) => return Err(OpenFault::Failed),
     };
     let Ok(metadata) = file.metadata() else {
@@ -88,6 +103,17 @@ fn read_again(file: &File, at: u64, into: &mut [u8]) -> Result<usize, Failed>
     Err(Failed)
 }
 
+// A file that gives nothing where it has told more bytes was shortened, which is a failed read.
+fn read_told(file: &File, told: u64, at: u64, into: &mut [u8]) -> Result<usize, Failed>
+    ensures { IfOk result (λ n. n ≤ length into.old) }
+{
+    let wanted = !into.is_empty() && at < told;
+    match read_again(file, at, into)? {
+        0 if wanted => Err(Failed),
+        count => Ok(count),
+    }
+}
+
 impl InputFile for FileInput {
     ghost held = { λ _. None };
 
@@ -101,8 +127,9 @@ impl InputFile for FileInput {
                 Err(_) => Err(Failed),
             },
         };
-        if length.is_err() {
-            self.faults = self.faults.saturating_add(1);
+        match length {
+            Ok(told) => self.told = told,
+            Err(Failed) => self.faults = self.faults.saturating_add(1),
         }
         length
     }
@@ -110,7 +137,7 @@ impl InputFile for FileInput {
     fn read_at(&mut self, at: u64, into: &mut [u8]) -> Result<usize, Failed> {
         let count = match &mut self.source {
             Source::Kept(file) => file.read_at(at, into),
-            Source::System(file) => read_again(file, at, into),
+            Source::System(file) => read_told(file, self.told, at, into),
         };
         if count.is_err() {
             self.faults = self.faults.saturating_add(1);
@@ -135,7 +162,11 @@ impl<R: Files<File = File>> Inputs for FileInputs<'_, R> {
         match open_source(self.rt, &mut self.kept, name) {
             Ok(source) => {
                 self.opened = self.opened.saturating_add(1);
-                Ok(FileInput { source, faults: 0 })
+                Ok(FileInput {
+                    source,
+                    told: 0,
+                    faults: 0,
+                })
             }
             Err(fault) => {
                 match fault {

@@ -4,7 +4,8 @@ use outside::{Failed, Sink};
 use std::io;
 use std::io::Write;
 
-/// A standard stream of the program, or a file. It counts its faults and tells no bytes, and its label is 0.
+/// A standard stream of the program, or a file. It counts its faults and tells no bytes, and its
+/// label is 0.
 #[derive(Drop)]
 pub struct StdSink<W> {
     stream: W,
