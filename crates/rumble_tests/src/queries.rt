@@ -286,14 +286,14 @@ declare function f() { json-lines('b') }; json-lines('a')
 > 1
 ";
 
-const SALES: &str =
+pub(crate) const SALES: &str =
     "{\"id\":9007199254740993001,\"store\":\"Z\u{fc}rich\",\"items\":[{\"sku\":\"A1\",\"price\":12.50,\"qty\":2},{\"sku\":\"B2\",\"price\":0.99,\"qty\":10}]}
 {\"id\":9007199254740993002,\"store\":\"Bern\",\"items\":[{\"sku\":\"A1\",\"price\":12.50,\"qty\":1}],\"note\":null}
 {\"id\":9007199254740993003,\"store\":\"Z\u{fc}rich\",\"items\":[]}
 {\"id\":\"9007199254740993004\",\"store\":\"Bern\",\"items\":[{\"sku\":\"C3\",\"price\":1e2,\"qty\":3}]}
 ";
 
-const TOTALS: &str = "for $o in json-lines(\"a\")
+pub(crate) const TOTALS: &str = "for $o in json-lines(\"a\")
 for $i in $o.items[]
 let $v := $i.price * $i.qty
 group by $s := $o.store
@@ -301,7 +301,7 @@ order by sum($v) descending
 return {\"store\": $s, \"lines\": count($i), \"total\": sum($v), \"last\": $o[count($o)].id}
 ";
 
-const STORES: &str =
+pub(crate) const STORES: &str =
     "{\"store\":\"Bern\",\"lines\":2,\"total\":312.5,\"last\":\"9007199254740993004\"}
 {\"store\":\"Z\u{fc}rich\",\"lines\":2,\"total\":34.9,\"last\":9007199254740993001}
 ";

@@ -54,12 +54,24 @@ pub(crate) fn run_over<R: Threads + Wait + Sync, I: Inputs + Drop>(
     rt: &R,
     alloc: Global,
     words: &[&str],
-    mut inputs: I,
+    inputs: I,
     room: (usize, usize),
 ) -> Result<Outcome, Fail> {
+    let out = MemSink::new(alloc, room.0, 7)?;
+    let err = MemSink::new(alloc, room.1, 7)?;
+    run_into(rt, alloc, words, inputs, out, err)
+}
+
+/// A run over these inputs into these sinks.
+pub(crate) fn run_into<R: Threads + Wait + Sync, I: Inputs + Drop>(
+    rt: &R,
+    alloc: Global,
+    words: &[&str],
+    mut inputs: I,
+    mut out: MemSink,
+    mut err: MemSink,
+) -> Result<Outcome, Fail> {
     let words = texts(alloc, words)?;
-    let mut out = MemSink::new(alloc, room.0, 7)?;
-    let mut err = MemSink::new(alloc, room.1, 7)?;
     let status = rumble(
         rt,
         alloc,
