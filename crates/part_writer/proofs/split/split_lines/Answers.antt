@@ -29,6 +29,6 @@ returns-clause-within c =
 pub returns-clause-length : goal.returns-clause-length
 returns-clause-length c =
     let made : length c.loop.ranges.items ≡ c.loop.counter
-        = ranges_count c.args.text.now c.max-each.result c.loop.counter c.loop.ranges.items
-        c.loop.invariant.ranges in
+    = ranges_count c.args.text.now c.max-each.result c.loop.counter c.loop.ranges.items
+    c.loop.invariant.ranges in
     omega (arith, made, c.loop-test.false, c.loop.auto.counter-end)
