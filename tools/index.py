@@ -1,32 +1,29 @@
 #!/usr/bin/env python3
 """Writes docs/INDEX.md: a line for each file of code and of definitions, crate by crate.
 
-A file is told by the first sentence of its first comment. A file of code without a comment at its
-head is told by its first item that has one, with the item's name, and one without any comment by
-its name alone. Files that only name other files are left out. Run it again after a change of files
-or of their first comments: tools/index.py
+A file is told by the first sentence of the comment at its head, and one without such a comment ends
+the script with status 1. Files that only name other files are left out. Run it again after a change
+of files or of these comments: tools/index.py
 """
 import re
+import sys
 from pathlib import Path
 
 TOP = Path(__file__).resolve().parent.parent
 HEAD = """# Index
 
-Every file of code (`src/`) and of definitions (`specs/`), crate by crate, by its first comment. A name before a colon is the first item that has a comment. Files that only name other files are left out. `tools/index.py` writes this page. [ARCHITECTURE.md](ARCHITECTURE.md) has the map: what the crates are, and who stands on whom.
+Every file of code (`src/`) and of definitions (`specs/`), crate by crate, by the comment at its head. Files that only name other files are left out. `tools/index.py` writes this page. [ARCHITECTURE.md](ARCHITECTURE.md) has the map: what the crates are, and who stands on whom.
 """
-ITEM = re.compile(r"(?:pub(?:\([^)]*\))? )?(?:fn|struct|enum|trait|type|const|static) (\w+)")
-
-
 def paragraph(lines, mark):
-    """The text of the first comment with this mark, and the number of the line after it."""
+    """The text of the comment with this mark that stands at the head."""
     text = []
-    for number, line in enumerate(lines):
+    for line in lines:
         said = line.strip()
         if said.startswith(mark) and said.rstrip() != mark:
             text.append(said[len(mark):].strip())
         elif text:
-            return " ".join(text), number
-    return " ".join(text), len(lines)
+            break
+    return " ".join(text)
 
 
 def first_sentence(text):
@@ -37,29 +34,13 @@ def first_sentence(text):
     return text
 
 
-def item_name(lines):
-    for line in lines:
-        found = ITEM.match(line.strip())
-        if found:
-            return "`%s`: " % found[1]
-        if not line.strip().startswith(("#[", "//")):
-            return ""
-    return ""
-
-
 def told(path):
-    """What the index has of a file."""
+    """What the index has of a file: the first sentence of the comment at its head."""
     lines = path.read_text(encoding="utf-8").split("\n")
-    if path.suffix == ".antt":
-        return first_sentence(paragraph(lines, "--")[0])
-    text = paragraph(lines, "//!")[0]
-    if text:
-        return first_sentence(text)
-    for mark in ("///", "// "):
-        text, after = paragraph(lines, mark)
-        if text:
-            return item_name(lines[after:]) + first_sentence(text)
-    return ""
+    mark = "--" if path.suffix == ".antt" else "//!"
+    if not lines[0].startswith(mark):
+        sys.exit("%s does not begin with a comment" % path.relative_to(TOP))
+    return first_sentence(paragraph(lines, mark))
 
 
 def names_others_alone(path):
@@ -80,8 +61,7 @@ def section(crate):
     if library.exists():
         lines.append("%s.\n" % told(library))
     for path in files_of(crate):
-        said = told(path)
-        lines.append("- `%s`%s" % (path.relative_to(crate), said and ": " + said))
+        lines.append("- `%s`: %s" % (path.relative_to(crate), told(path)))
     return "\n".join(lines) + "\n"
 
 

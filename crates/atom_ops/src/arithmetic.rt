@@ -1,3 +1,5 @@
+//! Arithmetic on two operands, each empty or one number.
+
 ghost use Rattle.std.specs.Prelude.{◌≡◌, IfOk};
 ghost use Rattle.item_tree.specs.Item.{datums};
 ghost use Rattle.num_fixed.specs.Bounds.{InBounds, NumberInBounds};

@@ -1,3 +1,5 @@
+//! Casts of one atomic to another type.
+
 ghost use Rattle.std.specs.Prelude.{◌≡◌, Ok, Err, IsTrue, MatchResult, IfOk, IfErr, IfSome, option_map};
 ghost use Rattle.item_tree.specs.Datum.{IsAtomic};
 ghost use Rattle.item_tree.specs.Item.{datum, datums};

@@ -1,3 +1,5 @@
+//! Comparisons of two values, and of the pairs of two sequences.
+
 ghost use Rattle.std.specs.Prelude.{◌≡◌};
 ghost use Rattle.item_tree.specs.Item.{datum, datums};
 ghost use Rattle.atom_ops.specs.Comparison.{holds, compared, value_comparison, pair_comparison, comparison_with, general_comparison};

@@ -1,3 +1,5 @@
+//! Dates and date-times in texts that are cast.
+
 ghost use Rattle.std.specs.Prelude.{◌≡◌};
 ghost use Rattle.std.specs.Option.{ok_or};
 ghost use Rattle.item_tree.specs.declared.code.Code.TheVariants.{FORG0001};

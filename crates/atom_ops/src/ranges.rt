@@ -1,3 +1,5 @@
+//! Ranges of integers.
+
 ghost use Rattle.std.specs.Prelude.{◌≡◌, ◌^◌, pos, ◌+ℤ◌, ◌≤ℤ◌, Ok, IfOk, IfErr};
 ghost use Rattle.item_tree.specs.Datum.{IsWhole};
 ghost use Rattle.item_tree.specs.Item.{datums};

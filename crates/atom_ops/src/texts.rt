@@ -1,3 +1,5 @@
+//! The concatenation of two operands.
+
 ghost use Rattle.std.specs.Prelude.{◌≡◌, ◌++◌, Ok, Err, MatchResult, IfOk, IfErr, IfSome, None, option_map};
 ghost use Rattle.item_tree.specs.Datum.{IsAtomic};
 ghost use Rattle.item_tree.specs.Item.{datum, datums};

@@ -1,3 +1,5 @@
+//! The events of a pool of workers.
+
 /// What happens to a pool.
 #[derive(Clone, Copy, Debug, PartialEq, Eq)]
 pub enum CoreEvent {

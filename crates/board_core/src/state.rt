@@ -1,3 +1,5 @@
+//! The state of a pool of workers, and its step from event to event.
+
 ghost use Rattle.std.specs.Prelude.{◌≡◌};
 ghost use Rattle.board_core.specs.Core.{opening, limit_of, stepped};
 

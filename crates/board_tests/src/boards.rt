@@ -1,4 +1,4 @@
-// What the calls of a board answer, and the log that they leave.
+//! What the calls of a board answer, and the log that they leave.
 
 use board_core::CoreEvent;
 use item_tree::NoMemory;

@@ -1,5 +1,5 @@
-// Gates round pieces: that two workers run at once, and that each piece has one gate before it and
-// one after it.
+//! Gates round pieces: that two workers run at once, and that each piece has one gate before it and
+//! one after it.
 
 ghost use Rattle.std.specs.Prelude.{◌<◌, length};
 

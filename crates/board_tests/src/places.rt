@@ -1,4 +1,4 @@
-// Least faults, and limits that are enough for them.
+//! Least faults, and limits that are enough for them.
 
 use fault_merge::{At, Done, enough, least};
 

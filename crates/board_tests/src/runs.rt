@@ -1,5 +1,5 @@
-// How runs of a job end, on 1, 2 and 64 workers. What is told of a run is the same by whatever
-// schedule it ran.
+//! How runs of a job end, on 1, 2 and 64 workers. What is told of a run is the same by whatever
+//! schedule it ran.
 
 use crate::script::{Act, Outcome, Script, Seat};
 use board_core::CoreEvent;

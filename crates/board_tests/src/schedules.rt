@@ -1,4 +1,4 @@
-// Events that the core allows one after the other, of 3 pieces with 4 clauses.
+//! Events that the core allows one after the other, of 3 pieces with 4 clauses.
 
 use board_core::{CoreEvent, CoreState, step};
 use fault_merge::{At, enough};

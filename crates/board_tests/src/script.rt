@@ -1,4 +1,4 @@
-// A job whose pieces do what a list says.
+//! A job whose pieces do what a list says.
 
 ghost use Rattle.std.specs.Prelude.{◌≡◌, length, ⊤};
 

@@ -1,3 +1,5 @@
+//! Dates as numbers of days.
+
 ghost use Rattle.std.specs.Prelude.{◌≡◌, MatchOption};
 ghost use Rattle.item_tree.specs.Dates.{Date, day_number};
 ghost use Rattle.date_atoms.specs.Sums.{IsDayNumber, IsDaysLater};

@@ -1,3 +1,5 @@
+//! Reads dates and date-times.
+
 ghost use Rattle.std.specs.Prelude.{◌≡◌, ◌<◌, ◌+◌, ◌*◌, ◌^◌, pos, ◌-ℤ◌, ◌*ℤ◌, unsigned_abs, MatchOption};
 ghost use Rattle.std.specs.Str.{chars};
 ghost use Rattle.item_tree.specs.Dates.{Date, DateTime};

@@ -1,3 +1,5 @@
+//! The first key of a list that a given key cannot be compared with.
+
 ghost use Rattle.std.specs.Prelude.{◌≡◌, ◌++◌, ◌∷◌, [], length, None};
 ghost use Rattle.tuple_rows.specs.Keys.{KeyList, key_datum, key_data};
 ghost use Rattle.eq_join.specs.Clashes.{clash, clash_at, earlier};

@@ -1,3 +1,5 @@
+//! The index of a join: where each key stands in a list.
+
 use crate::PairFault;
 use crate::clashes::{Clashes, clashes_of};
 use crate::places::{Places, places_of, positions_of};

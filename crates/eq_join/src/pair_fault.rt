@@ -1,3 +1,5 @@
+//! Why a key cannot be joined.
+
 use item_tree::Code;
 
 /// The first key in a list that cannot be compared with a given one.

@@ -1,3 +1,5 @@
+//! The different keys of a list, each with its positions.
+
 ghost use Rattle.std.specs.Prelude.{◌≡◌, ◌++◌, ◌∷◌, [], length, Some, IfOk, OnOk, position};
 ghost use Rattle.std.specs.List.{position_or_len};
 ghost use Rattle.item_tree.specs.Item.{datum};

@@ -1,3 +1,5 @@
+//! Hashers that begin with a seed.
+
 use std::hash::{BuildHasher, DefaultHasher, Hasher};
 
 /// Makes hashers that have read a seed, so that whoever does not know it cannot choose keys of one

@@ -1,3 +1,5 @@
+//! Where a fault stands, and which limits are enough for it.
+
 ghost use Rattle.std.specs.Prelude.{◌≡◌, IfSome};
 ghost use Rattle.fault_merge.specs.Places.{NotAfter, least_of};
 ghost use Rattle.fault_merge.specs.Enough.{enough_of};

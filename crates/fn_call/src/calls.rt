@@ -1,3 +1,5 @@
+//! Which function a call is of.
+
 ghost use Rattle.std.specs.Prelude.{◌≡◌, Ok, IfOk, IfErr};
 ghost use Rattle.item_tree.specs.Item.{datums};
 ghost use Rattle.value_rules.specs.Arguments.{argument_values};

@@ -1,3 +1,5 @@
+//! Functions on dates and date-times.
+
 ghost use Rattle.std.specs.Prelude.{◌≡◌, [], ◌∷◌, Ok, IfOk, IfErr, pos, ◌-ℤ◌};
 ghost use Rattle.item_tree.specs.Dates.{day_number};
 ghost use Rattle.item_tree.specs.Datum.{integer};

@@ -1,3 +1,5 @@
+//! Functions between items and their JSON texts.
+
 ghost use Rattle.std.specs.Prelude.{◌≡◌, Ok, IfOk, IfErr};
 ghost use Rattle.std.specs.String.{string_bytes};
 ghost use Rattle.item_tree.specs.Item.{datum, datums};

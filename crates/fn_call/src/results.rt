@@ -1,3 +1,5 @@
+//! Results of one item.
+
 ghost use Rattle.std.specs.Prelude.{◌≡◌, [], ◌∷◌, IfOk};
 ghost use Rattle.item_tree.specs.Item.{datum, datums};
 

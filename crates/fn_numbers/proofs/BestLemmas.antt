@@ -11,7 +11,8 @@ use Rattle.item_tree.specs.Classes.{class_of}
 use Rattle.item_tree.specs.Compare.{atom, order_if, compare_atoms}
 use Rattle.item_tree.specs.Datum.{Datum, null, boolean, integer, decimal, text, date, date_time, array, object, IsAtomic}
 use Rattle.item_tree.proofs.AtomOrder.{atomics_ordered}
-use Rattle.value_rules.specs.Numbers.{Kin, unbound, of_class, mixed, kin_of, class_number, same_class, joined_kin, kin, is_less_order, is_less, is_greater, better, best, unless_mixed, best_values}
+use Rattle.item_tree.specs.Classes.{class_number, same_class}
+use Rattle.value_rules.specs.Numbers.{Kin, unbound, of_class, mixed, kin_of, joined_kin, kin, is_less_order, is_less, is_greater, better, best, unless_mixed, best_values}
 use Rattle.fn_numbers.specs.inside.Candidates.{is_mixed, Keeps}
 
 -- ---- classes

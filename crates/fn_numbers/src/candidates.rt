@@ -1,3 +1,5 @@
+//! Which of two items a minimum or a maximum takes.
+
 ghost use Rattle.std.specs.Prelude.{◌≡◌, if◌then◌else◌, false, Some, None, Ok, IfOk, IfErr, OnOk, OnErr, option_map};
 ghost use Rattle.item_tree.specs.Item.{datum, datums};
 ghost use Rattle.value_rules.specs.Numbers.{unbound, kin_of, joined_kin, is_less, better, unless_mixed};

@@ -1,3 +1,5 @@
+//! `count`, part by part.
+
 use crate::Partial;
 use crate::results::one_item;
 use item_tree::{Item, NoMemory, OpFault, Whole};
@@ -12,11 +14,11 @@ pub struct CountPart {
 impl Partial for CountPart {
     ghost use Rattle.std.specs.Prelude.{◌≡◌, length};
     ghost use Rattle.std.proofs.Common.{arith};
-    ghost use Rattle.value_rules.specs.Numbers.{count_values};
+    ghost use Rattle.value_rules.specs.Sequences.{count};
 
     ghost stands = { λ p vs. p.count ≡ length vs };
 
-    ghost value_of = { count_values };
+    ghost value_of = { count };
 
     ghost count = { λ p. p.count };
 
@@ -37,6 +39,10 @@ impl Partial for CountPart {
     fn finish(self, alloc: Global) -> Result<Vec<Item>, OpFault> {
         let count = Whole::new(i128::from(self.count));
         Ok(one_item(alloc, Item::Int(count))?)
+    }
+
+    fn how_many(&self) -> u64 {
+        self.count
     }
 
     ghost counted = { λ p vs h. Prim.omega (arith, h) };

@@ -1,3 +1,5 @@
+//! `min` and `max`, whole and part by part.
+
 ghost use Rattle.std.specs.Prelude.{◌≡◌, false, Ok, IfOk, IfErr, option_map};
 ghost use Rattle.item_tree.specs.Item.{datum, datums};
 ghost use Rattle.value_rules.specs.Operands.{FailsWith};
@@ -95,6 +97,10 @@ impl Partial for MinPart {
         candidate.finish(alloc)
     }
 
+    fn how_many(&self) -> u64 {
+        0
+    }
+
     ghost counted = { λ p vs h. Prim.omega arith };
 }
 
@@ -137,6 +143,10 @@ impl Partial for MaxPart {
     fn finish(self, alloc: Global) -> Result<Vec<Item>, OpFault> {
         let MaxPart { candidate } = self;
         candidate.finish(alloc)
+    }
+
+    fn how_many(&self) -> u64 {
+        0
     }
 
     ghost counted = { λ p vs h. Prim.omega arith };

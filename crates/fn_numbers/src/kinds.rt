@@ -1,6 +1,9 @@
+//! The kinds of items that a minimum or a maximum compares.
+
 ghost use Rattle.std.specs.Prelude.{◌≡◌, ◌↔◌, IsTrue};
 ghost use Rattle.item_tree.specs.Item.{datum, datums};
-ghost use Rattle.value_rules.specs.Numbers.{kin_of, joined_kin, kin, same_class};
+ghost use Rattle.item_tree.specs.Classes.{same_class};
+ghost use Rattle.value_rules.specs.Numbers.{kin_of, joined_kin, kin};
 ghost use Rattle.fn_numbers.specs.inside.Candidates.{kin_value, is_mixed};
 
 use item_tree::{Class, Item};

@@ -1,3 +1,5 @@
+//! What a part of a function's value stands for, and how parts are merged.
+
 ghost use Rattle.std.specs.Prelude.{◌≡◌, ◌+◌, ◌^◌, ◌<◌, ◌≤◌, ℕ, List, [], ◌∷◌, ◌++◌, length, Result, Ok, IfOk, IfErr, OnOk, OnErr};
 ghost use Rattle.item_tree.specs.declared.code.Code.{Code};
 ghost use Rattle.item_tree.specs.Datum.{Datum};
@@ -42,6 +44,10 @@ pub trait Partial: Drop {
             → value_of vs ≡ Ok (datums xs.items)) }
         ensures fault { IfErr result (λ e. (vs : List Datum) → stands self vs
             → FailsWith (value_of vs) e) };
+
+    /// How many items it counts: at most those that it stands for.
+    fn how_many(&self) -> u64
+        ensures { result ≡ count self.now };
 
     // What a part counts are no more than the items that it stands for.
     ghost counted: { (p : Self) (vs : List Datum) → stands p vs → count p ≤ length vs };

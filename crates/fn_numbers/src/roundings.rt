@@ -1,3 +1,5 @@
+//! Functions that round one number.
+
 ghost use Rattle.std.specs.Prelude.{◌≡◌, Ok, IfOk, IfErr};
 ghost use Rattle.item_tree.specs.Item.{datums};
 ghost use Rattle.num_fixed.specs.Bounds.{InBounds, NumberInBounds};

@@ -1,3 +1,5 @@
+//! Items that are added up, of which one may be no number.
+
 ghost use Rattle.std.specs.Prelude.{◌≡◌, ◌+◌, ◌^◌, ◌<◌, ℤ, List, IfOk};
 ghost use Rattle.item_tree.specs.Datum.{Datum};
 ghost use Rattle.item_tree.specs.Item.{datum, datums};
@@ -16,6 +18,16 @@ use value_rules::told;
 pub(crate) enum Tallied {
     Numbers(Total),
     NoNumber,
+}
+
+/// How many numbers were added.
+pub(crate) fn how_many(tallied: &Tallied) -> u64
+    ensures { result ≡ numbers_kept tallied.now }
+{
+    match tallied {
+        Tallied::Numbers(total) => total.count(),
+        Tallied::NoNumber => 0,
+    }
 }
 
 /// The number that an item is.

@@ -1,3 +1,5 @@
+//! `sum` and `avg`, whole and part by part.
+
 ghost use Rattle.std.specs.Prelude.{◌≡◌, ◌^◌, ◌<◌, List, Ok, IfOk, IfErr, length};
 ghost use Rattle.item_tree.specs.Datum.{Datum};
 ghost use Rattle.item_tree.specs.Item.{datums};
@@ -7,7 +9,7 @@ ghost use Rattle.fn_numbers.specs.inside.Tallies.{tally_kept, tally};
 
 use crate::Partial;
 use crate::results::one_item;
-use crate::tallies::{Tallied, both, one_more, sum_of};
+use crate::tallies::{Tallied, both, how_many, one_more, sum_of};
 use crate::wide_totals::wide_total;
 use item_tree::{Code, Item, NoMemory, OpFault, Units};
 use num_fixed::Total;
@@ -118,6 +120,10 @@ impl Partial for SumPart {
         total_of(alloc, self.all)
     }
 
+    fn how_many(&self) -> u64 {
+        how_many(&self.all)
+    }
+
     ghost counted = { λ p vs h. numbers_counted p.all vs h };
 }
 
@@ -157,6 +163,10 @@ impl Partial for AvgPart {
 
     fn finish(self, alloc: Global) -> Result<Vec<Item>, OpFault> {
         mean_of(alloc, self.all)
+    }
+
+    fn how_many(&self) -> u64 {
+        how_many(&self.all)
     }
 
     ghost counted = { λ p vs h. numbers_counted p.all vs h };

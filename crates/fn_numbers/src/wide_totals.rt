@@ -1,3 +1,5 @@
+//! Exact totals of any number of addends.
+
 ghost use Rattle.std.specs.Prelude.{◌≡◌, ◌+◌, ◌*◌, ◌^◌, ◌<◌, ◌≤◌, ℤ, pos, ◌+ℤ◌, ◌*ℤ◌, unsigned_abs, IfOk};
 ghost use Rattle.item_tree.specs.Item.{datums};
 ghost use Rattle.num_fixed.specs.Bounds.{InBounds, NumberInBounds};

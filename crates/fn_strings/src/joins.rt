@@ -1,3 +1,5 @@
+//! Functions that put texts together.
+
 ghost use Rattle.std.specs.Prelude.{◌≡◌, ◌++◌, Ok, Err, map, MatchResult, IfOk, IfErr, OnOk};
 ghost use Rattle.std.specs.List.{flat_map};
 ghost use Rattle.std.specs.Str.{chars};

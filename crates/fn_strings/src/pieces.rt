@@ -1,3 +1,5 @@
+//! Functions that cut texts at blanks.
+
 ghost use Rattle.std.specs.Prelude.{◌≡◌, ◌<◌, ◌≤◌, ◌∷◌, [], length, drop, map, Ok, MatchOption, IfSome, IfOk, IfErr};
 ghost use Rattle.std.specs.List.{prefix_len, position_or_len};
 ghost use Rattle.std.specs.Str.{chars};

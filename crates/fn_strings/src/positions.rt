@@ -1,3 +1,5 @@
+//! Functions that count characters.
+
 ghost use Rattle.std.specs.Prelude.{◌≡◌, pos, int_le, int_lt, length, map, Ok, IfOk, IfErr};
 ghost use Rattle.std.specs.Str.{chars, encode_utf8_all};
 ghost use Rattle.item_tree.specs.Datum.{integer};

@@ -1,3 +1,5 @@
+//! Functions that look for a text in another.
+
 ghost use Rattle.std.specs.Prelude.{◌≡◌, nat_eq, Ok, None, MatchOption, IfOk, IfErr};
 ghost use Rattle.std.specs.List.{starts_with as list_starts, ends_with as list_ends};
 ghost use Rattle.std.specs.Str.{chars};

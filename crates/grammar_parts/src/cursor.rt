@@ -1,3 +1,5 @@
+//! The tokens that are still to be read.
+
 ghost use Rattle.std.specs.Prelude.{◌≡◌, length};
 ghost use Rattle.grammar_parts.specs.Tokens.{given, rest_of, sees, sees_two};
 ghost use Rattle.grammar_parts.specs.Readers.{taken, take_where};

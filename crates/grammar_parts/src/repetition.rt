@@ -1,3 +1,5 @@
+//! Repetitions and lists.
+
 ghost use Rattle.std.specs.Prelude.{◌≡◌, [], ◌∷◌, true, false, MatchResult};
 ghost use Rattle.grammar_parts.specs.declared.cursor.Stop.TheVariants.{NoMemory};
 ghost use Rattle.grammar_parts.specs.Turns.{start, Ended, Repeated, Listed};

@@ -1,3 +1,5 @@
+//! Classes of tokens.
+
 ghost use Rattle.std.specs.Prelude.{◌≡◌, Bool};
 
 /// A class of tokens: those that a place of a grammar takes.

@@ -1,3 +1,5 @@
+//! A group, and how a tuple joins it.
+
 ghost use Rattle.std.specs.Prelude.{◌≡◌, ◌<◌, ◌++◌, [], length, map, OnOk};
 ghost use Rattle.std.specs.List.{slice_set};
 ghost use Rattle.tuple_rows.specs.Tuples.{sequence, sequences};

@@ -1,3 +1,5 @@
+//! What the keys of groups are compared by.
+
 ghost use Rattle.std.specs.Prelude.{◌≡◌, IfOk};
 ghost use Rattle.item_tree.specs.Laws.{IsKey};
 ghost use Rattle.tuple_rows.specs.Keys.{AllKeys, key_datum, key_data};

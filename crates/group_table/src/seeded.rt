@@ -1,3 +1,5 @@
+//! Hashers that begin with a seed.
+
 ghost use Rattle.std.specs.Hash.{le_bytes};
 ghost use Rattle.std.specs.Hash.DefaultHasher as sip;
 

@@ -1,3 +1,5 @@
+//! The table of groups, in order of first appearance.
+
 use crate::finish::rows;
 use crate::group::{Group, join_at};
 use crate::group_key::{GroupKey, group_key};

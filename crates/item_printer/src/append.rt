@@ -1,3 +1,5 @@
+//! Appends bytes, or none of them.
+
 ghost use Rattle.std.specs.Prelude.{◌≡◌, ◌∷◌, [], ◌++◌, OnOk, OnErr};
 ghost use Rattle.item_printer.specs.Cut.{IsCut};
 

@@ -1,3 +1,5 @@
+//! Prints an item as compact JSON.
+
 ghost use Rattle.std.specs.Prelude.{◌≡◌, ◌++◌, OnOk, OnErr};
 ghost use Rattle.item_tree.specs.Item.{datum};
 ghost use Rattle.item_tree.specs.ItemText.{item_text, boolean_text};

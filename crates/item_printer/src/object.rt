@@ -1,3 +1,5 @@
+//! Prints objects.
+
 ghost use Rattle.std.specs.Prelude.{◌≡◌, ◌++◌, OnOk, OnErr};
 ghost use Rattle.item_tree.specs.Datum.{members, object_of_pairs};
 ghost use Rattle.item_tree.specs.Item.{datum, pair_datums};

@@ -1,3 +1,5 @@
+//! Prints strings and dates, with the escapes that JSON asks for.
+
 ghost use Rattle.std.specs.Prelude.{◌≡◌, ◌<◌, ◌++◌, true, false, OnOk, OnErr, position};
 ghost use Rattle.std.specs.Fmt.{digit_glyph};
 ghost use Rattle.item_tree.specs.Dates.{date_text, date_time_text};

@@ -1,3 +1,5 @@
+//! Why a line has no item.
+
 ghost use Rattle.std.specs.Prelude.{◌≡◌};
 ghost use Rattle.item_reader.specs.Faults.{code_of};
 

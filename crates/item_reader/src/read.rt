@@ -1,3 +1,5 @@
+//! Reads a line as an item.
+
 ghost use Rattle.std.specs.Prelude.{◌≡◌, IfOk, IfErr};
 ghost use Rattle.json_text.specs.inside.Build.{made, reading};
 ghost use Rattle.item_reader.specs.View.{built_if};

@@ -1,3 +1,5 @@
+//! Tests of effective boolean values.
+
 use crate::made::{one, samples};
 use item_tree::{Code, Item, Units, Whole, ebv};
 use std::test::Fail;

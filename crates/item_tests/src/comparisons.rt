@@ -1,3 +1,5 @@
+//! Tests of the order of atomics.
+
 use crate::made::{samples, whole};
 use item_tree::{Item, Str, Units, Whole, cmp_atoms, laws, same_key};
 use std::cmp::Ordering;

@@ -1,3 +1,5 @@
+//! Tests of dates and date-times.
+
 use crate::made::one;
 use item_tree::{
     Code, Day, Item, Moment, Str, Units, Whole, array_of, cmp_atoms, deep_equal, ebv, laws,

@@ -1,3 +1,5 @@
+//! Tests of equality at every depth.
+
 use crate::made::{numbered, one, reversed, samples, whole};
 use item_tree::{Item, Str, Units, array_of, deep_equal, laws, object_of};
 use std::alloc::Global;

@@ -1,3 +1,5 @@
+//! Tests of depths, and of keys that repeat.
+
 use crate::made::{nested, one};
 use item_tree::{MakeFault, PairList, Str, array_of, laws, object_of, object_of_distinct};
 use std::test::Fail;

@@ -1,3 +1,5 @@
+//! Tests of the table of the language's functions.
+
 use item_tree::{FnId, laws};
 
 // What a name is found as with up to four arguments.

@@ -1,3 +1,5 @@
+//! Tests of what atomics are compared by.
+
 ghost use Rattle.item_tree.specs.Datum.{IsAtomic};
 ghost use Rattle.item_tree.specs.Item.{datum};
 

@@ -1,3 +1,5 @@
+//! Tests of values that go last in a list.
+
 use item_tree::push_last;
 use std::test::Fail;
 

@@ -1,3 +1,5 @@
+//! Tests of how objects are made and read.
+
 use crate::made::{nested, numbered, whole};
 use item_tree::{Item, MakeFault, Pairs, Str, object_of, same_key};
 use std::test::Fail;

@@ -1,3 +1,5 @@
+//! Tests of copies, and of items that go to other threads.
+
 use crate::made::{numbered, one, samples};
 use item_tree::{
     FewIntegers, Item, PairList, Str, Whole, array_from, array_of_few, deep_equal, object_from,

@@ -1,3 +1,5 @@
+//! Tests of the texts of atomics.
+
 use item_tree::{DecimalBuffer, Item, Str, Units, Whole, text_of};
 use std::test::Fail;
 

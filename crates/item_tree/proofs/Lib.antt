@@ -23,3 +23,4 @@ mod DateRows
 mod KeyOrder
 mod SameValues
 mod Letting
+pub mod Crossing

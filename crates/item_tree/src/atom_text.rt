@@ -1,3 +1,5 @@
+//! The texts of atomics.
+
 ghost use Rattle.std.specs.Prelude.{◌≡◌, IfOk};
 ghost use Rattle.std.specs.Fmt.{signed_decimal};
 ghost use Rattle.item_tree.specs.Datum.{IsAtomic};

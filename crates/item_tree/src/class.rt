@@ -1,3 +1,5 @@
+//! The classes of atomics.
+
 ghost use Rattle.std.specs.Prelude.{◌≡◌};
 ghost use Rattle.item_tree.specs.Classes.{class_of};
 ghost use Rattle.item_tree.specs.Item.{datum};

@@ -1,3 +1,5 @@
+//! The codes of errors.
+
 ghost use Rattle.std.specs.Prelude.{◌≡◌};
 ghost use Rattle.item_tree.specs.Codes.{code_text};
 

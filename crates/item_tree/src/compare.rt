@@ -1,3 +1,5 @@
+//! Compares atomics, and items at every depth.
+
 ghost use Rattle.std.specs.Prelude.{◌≡◌, Some, option_map};
 ghost use Rattle.item_tree.specs.Datum.{object_of_pairs};
 ghost use Rattle.item_tree.specs.Item.{datum, datums, pair_datums};

@@ -1,3 +1,5 @@
+//! Dates and date-times.
+
 ghost use Rattle.std.specs.Prelude.{◌≡◌, ◌<◌, MatchOption};
 ghost use Rattle.item_tree.specs.Dates.{IsDate, IsDateTime, days_in_month, is_leap_year, nanos_of_day};
 

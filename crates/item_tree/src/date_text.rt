@@ -1,3 +1,5 @@
+//! The texts of dates and date-times.
+
 ghost use Rattle.std.specs.Prelude.{◌≡◌, ◌+◌, ◌≤◌, ◌<◌, ◌/◌, ◌%◌, ◌^◌, ◌++◌, ◌∷◌, [], length, take, drop};
 ghost use Rattle.std.specs.Str.{IsAscii, chars};
 ghost use Rattle.item_tree.specs.Dates.{IsDate, date_text, date_time_text, clock_text, nanos_text};

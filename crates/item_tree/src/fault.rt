@@ -1,3 +1,5 @@
+//! Faults, with their places and what they leave, and want of memory.
+
 ghost use Rattle.std.specs.Prelude.{◌≡◌};
 ghost use Rattle.item_tree.specs.Faults.{fault_at};
 

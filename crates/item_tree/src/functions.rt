@@ -1,3 +1,5 @@
+//! The table of the language's functions.
+
 ghost use Rattle.std.specs.Prelude.{◌≡◌};
 ghost use Rattle.std.specs.Str.{chars};
 ghost use Rattle.item_tree.specs.Functions.{signature, name_of, allows, is_called, function_named};

@@ -1,3 +1,5 @@
+//! Items, the values of the query language.
+
 ghost use Rattle.std.specs.Prelude.{◌≡◌, IfOk};
 ghost use Rattle.std.specs.Arc.{arc_value};
 

@@ -1,3 +1,5 @@
+//! What atomics are compared by, as keys.
+
 ghost use Rattle.std.specs.Prelude.{◌≡◌, IfOk, Some};
 ghost use Rattle.item_tree.specs.Compare.{atom};
 ghost use Rattle.item_tree.specs.Datum.{IsAtomic};

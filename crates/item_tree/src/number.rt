@@ -1,3 +1,5 @@
+//! Integers and decimals in their bounds.
+
 ghost use Rattle.std.specs.Prelude.{◌≡◌};
 ghost use Rattle.item_tree.specs.Compare.{whole_units};
 ghost use Rattle.item_tree.specs.Datum.{IsWhole, IsUnits};

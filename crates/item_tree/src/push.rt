@@ -1,3 +1,5 @@
+//! Puts values last in a list.
+
 ghost use Rattle.std.specs.Prelude.{◌≡◌, ◌++◌, ◌∷◌, [], OnOk, OnErr};
 
 use crate::NoMemory;

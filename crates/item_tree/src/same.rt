@@ -1,3 +1,5 @@
+//! Whether two items are the same, written the same way.
+
 ghost use Rattle.std.specs.Prelude.{◌≡◌};
 ghost use Rattle.item_tree.specs.Datum.{values, members};
 ghost use Rattle.item_tree.specs.Item.{datum, datums, pair_datums};

@@ -1,3 +1,5 @@
+//! Effective boolean values.
+
 ghost use Rattle.std.specs.Prelude.{◌≡◌};
 ghost use Rattle.item_tree.specs.Item.{datum, datums};
 ghost use Rattle.item_tree.specs.Truth.{value_of_one, boolean_value};

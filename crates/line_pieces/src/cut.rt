@@ -1,3 +1,5 @@
+//! How an input is cut into pieces.
+
 ghost use Rattle.std.specs.Prelude.{◌≡◌, ◌<◌, ◌≤◌, ◌+◌, ◌*◌, ◌^◌, length, vec_len, sum, slice_index};
 ghost use Rattle.line_pieces.specs.Cuts.{size_used, pieces_of, place_of};
 

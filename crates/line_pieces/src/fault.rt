@@ -1,3 +1,5 @@
+//! Why a piece was not read.
+
 ghost use Rattle.std.specs.Prelude.{◌≡◌};
 
 use item_tree::NoMemory;

@@ -1,3 +1,5 @@
+//! The bounds of numbers.
+
 ghost use Rattle.std.specs.Prelude.{◌≡◌, ◌↔◌, ◌<◌, ℤ, unsigned_abs, IsTrue, IfOk, IfErr};
 ghost use Rattle.num_fixed.specs.Bounds.{bound, InBounds};
 ghost use Rattle.num_fixed.specs.declared.number.NumFault.TheVariants.{Overflow};

@@ -1,3 +1,5 @@
+//! Numbers from digits, rounded to the nearest.
+
 ghost use Rattle.std.specs.Prelude.{◌≡◌, ◌<◌, ◌^◌, ◌==◌, ◌∷◌, ◌++◌};
 ghost use Rattle.std.specs.List.{list_all};
 ghost use Rattle.num_fixed.specs.inside.Digits.{IsRest, rounded_by, IsWithin, IsFoundBefore, IsMissedBefore};

@@ -1,3 +1,5 @@
+//! A number at the front of some bytes.
+
 ghost use Rattle.std.specs.Prelude.{◌≡◌, ◌<◌, ◌≤◌, ◌-◌, ◌^◌, length, true, false, IfSome, IfNone, IfOk, IfErr};
 ghost use Rattle.num_fixed.specs.Fronts.{minus_len, sign_len, fraction_len, exponent_len, has_number, numeral_front, AreEnds, may_go_on as may_go_on_of, short_whole as short_whole_of, IsWholeFront};
 ghost use Rattle.num_fixed.specs.Numeral.{number_of, IsSaid, IsRefused};

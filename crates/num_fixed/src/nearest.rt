@@ -1,3 +1,5 @@
+//! The whole number nearest to a ratio.
+
 ghost use Rattle.std.specs.Prelude.{◌≡◌, ◌≢◌, ◌+◌, ◌-◌, ◌/◌, ◌^◌, ◌<◌, ◌≤◌, ℤ, pos, unsigned_abs};
 ghost use Rattle.num_fixed.specs.Nearest.{IsNearest, IsNearestNatural};
 ghost use Rattle.num_fixed.specs.Signs.{with_sign, is_negative, differ};

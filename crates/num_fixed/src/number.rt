@@ -1,3 +1,5 @@
+//! Kinds of numbers, and why there is none.
+
 /// What the whole number of an operand counts.
 #[derive(Clone, Copy, Debug, PartialEq, Eq)]
 pub enum Kind {

@@ -1,3 +1,5 @@
+//! Products and quotients.
+
 ghost use Rattle.std.specs.Prelude.{◌≡◌, ◌≢◌, ℤ, pos, IfOk, IfErr};
 ghost use Rattle.num_fixed.specs.Bounds.{InBounds, IsOver};
 ghost use Rattle.num_fixed.specs.Nearest.{IsNearestUnit};

@@ -1,3 +1,5 @@
+//! Numbers as units, and rounded.
+
 ghost use Rattle.std.specs.Prelude.{◌≡◌, ℤ, pos, ◌^◌, ◌<◌, unsigned_abs, IfOk, IfErr};
 ghost use Rattle.num_fixed.specs.Bounds.{InBounds, IsOver};
 ghost use Rattle.num_fixed.specs.Quotients.{IsTruncated};

@@ -1,3 +1,5 @@
+//! Numbers with a power of ten, in units.
+
 ghost use Rattle.std.specs.Prelude.{◌<◌, ◌≤◌, ◌+◌, ◌*◌, ◌^◌, ◌++◌, length};
 ghost use Rattle.num_fixed.specs.inside.Digits.{IsWithin, IsFound, IsMissed, IsFoundAt, IsMissedAt, IsSize, IsNoSize};
 ghost use Rattle.num_fixed.specs.Numeral.{AreDigits, number_of};

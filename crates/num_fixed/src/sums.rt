@@ -1,3 +1,5 @@
+//! Sums, differences and remainders.
+
 ghost use Rattle.std.specs.Prelude.{◌≡◌, ◌≢◌, ◌↔◌, ℤ, pos, ◌+ℤ◌, ◌-ℤ◌, IfOk, IfErr};
 ghost use Rattle.num_fixed.specs.Bounds.{InBounds};
 ghost use Rattle.num_fixed.specs.Quotients.{IsRemainder};

@@ -1,3 +1,5 @@
+//! Exact totals of numbers.
+
 ghost use Rattle.std.specs.Prelude.{◌≡◌, ◌≢◌, ◌+◌, ◌<◌, ◌^◌, ℤ, pos, IsTrue, IfOk, IfErr};
 ghost use Rattle.num_fixed.specs.Bounds.{InBounds, NumberInBounds, IsOver};
 ghost use Rattle.num_fixed.specs.Totals.{number_units, is_int, nothing, one, joined, IsSum, IsMean};

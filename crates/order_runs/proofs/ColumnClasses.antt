@@ -5,7 +5,8 @@ use Rattle.item_tree.specs.declared.class.Class.{Class}
 use Rattle.item_tree.specs.declared.class.Class.TheVariants.{Null, Boolean, Number, Text, Date, DateTime}
 use Rattle.order_runs.specs.declared.column_seen.First.{First}
 use Rattle.order_runs.specs.declared.column_seen.ColumnSeen.{ColumnSeen}
-use Rattle.order_runs.specs.Clashes.{class_number, same_class, differ, clashes}
+use Rattle.item_tree.specs.Classes.{class_number, same_class}
+use Rattle.order_runs.specs.Clashes.{differ, clashes}
 use Rattle.order_runs.specs.Seen.{Sees, nothing, one, several, meets, seeing, further, clash_from, one_later, start_of, column_seen}
 use Rattle.order_runs.specs.inside.Follow.{sees_of, sees, place_of, clash_of_one, clash_of, shifted, plus, first_some, or_later, followed, IsPlaced, IsWithin}
 use Rattle.order_runs.specs.inside.Columns.{column_clash}

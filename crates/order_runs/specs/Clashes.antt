@@ -2,9 +2,8 @@
 use Rattle.std.specs.Prelude.{ℕ, suc, ◌+◌, ◌==◌, Bool, false, not, List, [], ◌∷◌, ◌++◌, map, Option, Some, None, if◌then◌else◌}
 use Rattle.std.specs.List.{list_any}
 use Rattle.item_tree.specs.declared.class.Class.{Class}
-use Rattle.item_tree.specs.declared.class.Class.TheVariants.{Null, Boolean, Number, Text, Date, DateTime}
 use Rattle.item_tree.specs.Datum.{Datum, null}
-use Rattle.item_tree.specs.Classes.{class_of}
+use Rattle.item_tree.specs.Classes.{class_of, same_class}
 use Rattle.tuple_rows.specs.Keys.{KeyList}
 
 -- the class of a key, where it has one that may clash: an absent key and null go with every class
@@ -12,17 +11,6 @@ abbrev pub key_class : Option Datum → Option Class
 key_class None = None
 key_class (Some null) = None
 key_class (Some v) = class_of v
-
-abbrev pub class_number : Class → ℕ
-class_number Null = 0
-class_number Boolean = 1
-class_number Number = 2
-class_number Text = 3
-class_number Date = 4
-class_number DateTime = 5
-
-abbrev pub same_class : Class → Class → Bool
-same_class c d = class_number c == class_number d
 
 -- two different classes
 abbrev pub differ : Option Class → Option Class → Bool

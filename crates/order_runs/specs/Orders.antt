@@ -68,12 +68,3 @@ key_lists X = map (λ p. p.0) X
 
 abbrev pub rows : List Keyed → List Row
 rows X = map (λ p. p.1) X
-
-abbrev pub unless : {A B : Type 0} → Option B → A → Result A B
-unless None x = Ok x
-unless (Some e) x = Err e
-
--- what an order makes of tuples with their keys: the tuple, from 1, and the column, from 0, of the
--- earliest clash; or the tuples in order
-abbrev pub order : List Column → List Keyed → Result (List Row) (ℕ × ℕ)
-order columns X = unless (first_clash (key_lists X)) (rows (sorted columns X))

@@ -4,7 +4,8 @@ use Rattle.item_tree.specs.declared.class.Class.{Class}
 use Rattle.tuple_rows.specs.Keys.{KeyList}
 use Rattle.order_runs.specs.declared.column_seen.First.{First}
 use Rattle.order_runs.specs.declared.column_seen.ColumnSeen.{ColumnSeen}
-use Rattle.order_runs.specs.Clashes.{same_class, differ, first_classes, other_columns}
+use Rattle.item_tree.specs.Classes.{same_class}
+use Rattle.order_runs.specs.Clashes.{differ, first_classes, other_columns}
 
 -- no class, one, or several
 pub data Sees : Type 0 where

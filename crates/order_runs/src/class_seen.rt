@@ -1,3 +1,5 @@
+//! The classes of the keys of a list of tuples.
+
 ghost use Rattle.std.specs.Prelude.{◌≡◌, ◌<◌, ◌^◌, length, None};
 ghost use Rattle.tuple_rows.specs.Keys.{key_data, key_datum};
 ghost use Rattle.order_runs.specs.inside.Follow.{followed_columns, clash_list, AllWithin, IsPlaced};

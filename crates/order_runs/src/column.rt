@@ -1,3 +1,5 @@
+//! The columns of an order.
+
 /// One key of an order.
 #[derive(Clone, Copy, Debug, PartialEq, Eq)]
 pub struct Column {

@@ -3,7 +3,8 @@
 ghost use Rattle.std.specs.Prelude.{◌≡◌, ◌<◌, ◌^◌, ◌∷◌, [], option_map};
 ghost use Rattle.item_tree.specs.Item.{datum};
 ghost use Rattle.tuple_rows.specs.Keys.{key_datum};
-ghost use Rattle.order_runs.specs.Clashes.{key_class, same_class, class_number};
+ghost use Rattle.item_tree.specs.Classes.{same_class, class_number};
+ghost use Rattle.order_runs.specs.Clashes.{key_class};
 ghost use Rattle.order_runs.specs.Seen.{column_seen};
 ghost use Rattle.order_runs.specs.inside.Follow.{sees, clash_of, clash_of_one, place_of, followed, shifted, or_later, plus, first_some, IsWithin, IsPlaced};
 

@@ -1,3 +1,5 @@
+//! Merges sorted runs.
+
 ghost use Rattle.std.specs.Prelude.{◌≡◌, ◌++◌, None, List, length, map, OnOk, IfOk, IfErr};
 ghost use Rattle.tuple_rows.specs.Tuples.{row_list};
 ghost use Rattle.tuple_rows.specs.Keys.{KeyList, Keyed};

@@ -1,3 +1,5 @@
+//! Sorted runs of tuples with their keys.
+
 ghost use Rattle.std.specs.Prelude.{◌≡◌, ◌<◌, ◌^◌, ◌≤◌, None, List, length, IfOk, IfErr};
 ghost use Rattle.order_runs.specs.Clashes.{first_clash};
 ghost use Rattle.order_runs.specs.Orders.{key_lists, below, ordered, sorted};

@@ -1,3 +1,5 @@
+//! Counters.
+
 ghost use Rattle.std.specs.Prelude.{◌≡◌};
 ghost use Rattle.outside.specs.Counted.{count_up};
 

@@ -1,3 +1,5 @@
+//! Files in memory of which some calls fail.
+
 ghost use Rattle.std.specs.Prelude.{◌≡◌, ◌<◌, ◌↔◌, IsTrue, Contains, IfOk, OnErr, IsErr, IsErrOf, is_err, Some, length};
 ghost use Rattle.std.specs.Str.{chars};
 ghost use Rattle.outside.specs.World.{file_of, LacksName, NamesDiffer, readable, filled};

@@ -1,3 +1,5 @@
+//! What a worker calls before and after each piece.
+
 /// What a worker calls before and after each piece of its work.
 pub trait Gate: Sync {
     /// Called before the piece of this number.

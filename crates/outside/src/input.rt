@@ -1,3 +1,5 @@
+//! Files that are read, and the inputs that open them.
+
 ghost use Rattle.std.specs.Prelude.{◌≡◌, ◌≤◌, ℕ, List, Option, length, IfOk, OnOk, OnErr, IfSome, IsErrOf};
 ghost use Rattle.std.specs.Str.{chars};
 ghost use Rattle.outside.specs.Counted.{Rose};

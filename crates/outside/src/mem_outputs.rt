@@ -1,3 +1,5 @@
+//! Numbered outputs in memory.
+
 ghost use Rattle.std.specs.Prelude.{◌≡◌, ◌↔◌, ◌<◌, ◌≤◌, ◌^◌, length, IfOk, IsErr, IsErrOf, Some};
 ghost use Rattle.outside.specs.InMemory.{BoundedSink};
 ghost use Rattle.outside.specs.MemOutputs.{new_outputs, made_of, created_of, empty_sink, CreateFails, after_create, after_finish};

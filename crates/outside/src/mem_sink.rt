@@ -1,3 +1,5 @@
+//! A sink in memory.
+
 ghost use Rattle.std.specs.Prelude.{◌≡◌, ◌<◌, ◌≤◌, ◌↔◌, length, nat_lt, IfOk, IsErr};
 ghost use Rattle.outside.specs.InMemory.{takes_of, IsStuck};
 ghost use Rattle.outside.specs.AfterCalls.{new_sink, after_write};

@@ -1,3 +1,5 @@
+//! Outputs by their numbers.
+
 ghost use Rattle.std.specs.Prelude.{◌≡◌, ◌<◌, ◌≤◌, ◌+◌, ◌^◌, ◌-◌, ℕ, List, Option, IfOk, IsErrOf};
 ghost use Rattle.outside.specs.Outputs.{Made, BeginsEmpty, finished_with, CreateFaultsBy, CreatedBy, FinishFaults};
 

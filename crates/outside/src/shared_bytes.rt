@@ -1,3 +1,5 @@
+//! Bytes that several open files share.
+
 ghost use Rattle.std.specs.Prelude.{◌≡◌, IfOk, length};
 ghost use Rattle.outside.specs.World.{readable, filled};
 

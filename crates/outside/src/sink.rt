@@ -1,3 +1,5 @@
+//! Sinks, and how all of some bytes is written.
+
 ghost use Rattle.std.specs.Prelude.{◌≡◌, ◌<◌, ◌≤◌, ◌⊎◌, ℕ, List, Option, length, take, IfOk, OnOk, OnErr};
 ghost use Rattle.outside.specs.Counted.{Rose, appended, CutShort};
 

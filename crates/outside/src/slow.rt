@@ -1,3 +1,5 @@
+//! Files in memory whose reads give few bytes.
+
 ghost use Rattle.std.specs.Prelude.{◌≡◌, ◌<◌, IfOk, Ok, IsErrOf, Some, length, min};
 ghost use Rattle.std.specs.Str.{chars};
 ghost use Rattle.outside.specs.World.{file_of, LacksName, readable, filled};

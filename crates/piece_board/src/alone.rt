@@ -1,4 +1,4 @@
-// Runs all pieces of a job in order, on the thread of the caller.
+//! Runs all pieces of a job in order, on the thread of the caller.
 
 ghost use Rattle.std.specs.Prelude.{◌≡◌, ◌<◌, ◌≤◌, ◌^◌, IfOk, OnOk};
 ghost use Rattle.outside.specs.Counted.{Rose};

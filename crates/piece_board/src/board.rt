@@ -1,3 +1,5 @@
+//! The board: the state of a pool with its log.
+
 ghost use Rattle.std.specs.Prelude.{◌≡◌, ◌<◌, ◌≤◌, ◌^◌, ◌∷◌, ◌++◌, [], length, Some, ◌↔◌, ◌⊎◌, IsNone, IfSome, IfNone, IfOk, true, vec_capacity};
 ghost use Rattle.board_core.specs.Core.{opening, stepped, limit_of};
 ghost use Rattle.piece_board.specs.Boards.{Replays, after_tell, after_stop};

@@ -1,3 +1,5 @@
+//! The work that a pool does, piece by piece.
+
 ghost use Rattle.std.specs.Prelude.{◌≡◌, ◌<◌, ◌≤◌, ℕ, Option, IfOk, OnOk, IfSome};
 ghost use Rattle.outside.specs.Counted.{Rose};
 ghost use Rattle.piece_board.specs.Faults.{IsJob};

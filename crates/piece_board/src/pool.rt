@@ -1,3 +1,5 @@
+//! Runs all pieces of a job on workers.
+
 ghost use Rattle.std.specs.Prelude.{◌≡◌, ◌<◌, ◌^◌, length, All, IfOk, OnOk, IfSome, map};
 ghost use Rattle.fault_merge.specs.Enough.{AllEnough};
 ghost use Rattle.piece_board.specs.Faults.{IsJob};

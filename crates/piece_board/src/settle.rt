@@ -1,4 +1,4 @@
-// Sees whether the outputs of the workers and the log of the board agree.
+//! Sees whether the outputs of the workers and the log of the board agree.
 
 ghost use Rattle.std.specs.Prelude.{◌≡◌, ◌<◌, ◌^◌, ◌∷◌, ◌++◌, [], List, length, All, IfOk, IfSome};
 ghost use Rattle.std.specs.Bool.{OnTrue};

@@ -1,4 +1,4 @@
-// Moves the seats into slots for the workers, and back again.
+//! Moves the seats into slots for the workers, and back again.
 
 ghost use Rattle.std.specs.Prelude.{◌≡◌, ◌<◌, ◌≤◌, ◌+◌, ◌∷◌, ◌++◌, [], length, All, Some, None, IfOk, IfErr, OnOk, OnErr, vec_capacity};
 ghost use Rattle.piece_board.specs.inside.Slots.{IsGood, AllGood, IsFresh, NoFaults, SomeFault, seats_of};

@@ -1,4 +1,4 @@
-// What the workers do: each runs pieces from the board on its own seat, until there is none.
+//! What the workers do: each runs pieces from the board on its own seat, until there is none.
 
 ghost use Rattle.std.specs.Prelude.{◌≡◌, ◌<◌, ◌≤◌, ℕ, length, slice_index_or, All, OnOk};
 ghost use Rattle.outside.specs.Counted.{Rose};

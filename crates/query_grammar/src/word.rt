@@ -1,3 +1,5 @@
+//! Tokens as the grammar sees them.
+
 ghost use Rattle.std.specs.Prelude.{◌≡◌};
 
 use crate::class::Class;

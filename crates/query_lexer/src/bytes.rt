@@ -1,3 +1,5 @@
+//! Classes of bytes.
+
 ghost use Rattle.std.specs.Prelude.{◌≡◌};
 ghost use Rattle.query_lexer.specs.Bytes.{is_letter, is_name_byte, is_blank, next_passes};
 

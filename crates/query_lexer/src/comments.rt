@@ -1,3 +1,5 @@
+//! Comments.
+
 ghost use Rattle.std.specs.Prelude.{◌≡◌, ◌≤◌, length, IfSome, IsTrue};
 ghost use Rattle.query_lexer.specs.Comments.{opens, closes, begins_comment, comment_rest};
 

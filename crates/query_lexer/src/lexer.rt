@@ -1,3 +1,5 @@
+//! The tokens of a text.
+
 ghost use Rattle.std.specs.Prelude.{◌≡◌, ◌<◌, ◌^◌, ℕ, length, List, IfOk, IfErr, MatchResult};
 ghost use Rattle.item_tree.specs.declared.code.Code.{Code};
 ghost use Rattle.query_lexer.specs.Lexes.{Tokens, Refused, IsFault, IsTold};

@@ -1,3 +1,5 @@
+//! Marks, such as brackets and operators.
+
 ghost use Rattle.std.specs.Prelude.{◌≡◌, ◌≤◌, length, IfSome};
 ghost use Rattle.query_lexer.specs.Bytes.{is_mark, is_double_mark};
 ghost use Rattle.query_lexer.specs.Scan.{mark_at};

@@ -1,3 +1,5 @@
+//! Numbers in a query.
+
 ghost use Rattle.std.specs.Prelude.{◌≡◌, ◌≤◌, length, IfSome, []};
 ghost use Rattle.num_fixed.specs.Numeral.{IsNumeral};
 ghost use Rattle.num_fixed.specs.Scan.{minus_at};

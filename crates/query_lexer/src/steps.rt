@@ -1,3 +1,5 @@
+//! What stands at a place of a text.
+
 ghost use Rattle.std.specs.Prelude.{◌≡◌, ◌<◌, ◌≤◌, length, Some, IfSome};
 ghost use Rattle.query_lexer.specs.Lexes.{Stands, goes};
 ghost use Rattle.query_lexer.specs.Scan.{token_at, step_at, word_step};

@@ -1,3 +1,5 @@
+//! Strings in a query.
+
 ghost use Rattle.std.specs.Prelude.{◌≡◌, ◌<◌, ◌≤◌, length, [], ◌∷◌, Some, None, IfSome, IfNone, MatchOption};
 ghost use Rattle.json_text.specs.inside.Scan.{string_at};
 ghost use Rattle.json_text.specs.Escapes.{Begins};

@@ -1,3 +1,5 @@
+//! Tokens, and why a text has none.
+
 ghost use Rattle.std.specs.Prelude.{◌≡◌};
 ghost use Rattle.query_lexer.specs.declared.token.LexFault.TheVariants.{NoMemory};
 

@@ -1,3 +1,5 @@
+//! The value of a string literal.
+
 ghost use Rattle.std.specs.Prelude.{◌≡◌, [], IfOk, IfSome};
 ghost use Rattle.item_tree.specs.JsonString.{IsString};
 ghost use Rattle.json_text.specs.inside.Scan.{string_at};

@@ -1,3 +1,5 @@
+//! Names, variables and words.
+
 ghost use Rattle.std.specs.Prelude.{◌≡◌, ◌≤◌, ◌+◌, ◌&&◌, not, length, drop, codes, IfSome, IsTrue};
 ghost use Rattle.std.specs.List.{prefix_len};
 ghost use Rattle.query_lexer.specs.Bytes.{is_name_byte, next_passes};

@@ -1,3 +1,5 @@
+//! What names stand for in a compiled query.
+
 ghost use Rattle.std.specs.Prelude.{◌≡◌};
 
 use crate::{Expr, Module};

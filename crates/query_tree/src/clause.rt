@@ -1,3 +1,5 @@
+//! The clauses of a FLWOR.
+
 use crate::{Expr, Placed};
 
 /// A clause of a FLWOR expression. There is a clause of its own for each variable of a `for` or a

@@ -1,3 +1,5 @@
+//! Compiled queries.
+
 ghost use Rattle.std.specs.Prelude.{◌≡◌, true};
 ghost use Rattle.query_tree.specs.Compiled.{bound_trees, is_compiled, IsFramed};
 

@@ -1,3 +1,5 @@
+//! Expressions.
+
 use crate::{
     Bind, Case, Catch, Clause, CompareOp, Factor, Operand, Pair, Placed, Quantifier, Step, SumOp,
     Term, TypeCase,

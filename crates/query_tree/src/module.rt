@@ -1,3 +1,5 @@
+//! Queries with their declarations.
+
 use crate::{Expr, Placed};
 
 /// A query: its declared variables and its declared functions, each in text order, and its body.

@@ -1,3 +1,5 @@
+//! Names with their places.
+
 use crate::{Expr, Module};
 use item_tree::Str;
 use seq_types::Times;

@@ -1,3 +1,5 @@
+//! Operators and quantifiers.
+
 /// Whether some or every binding must satisfy the test of a quantified expression.
 #[derive(Clone, Copy, Debug, PartialEq, Eq)]
 pub enum Quantifier {

@@ -1,3 +1,5 @@
+//! The parts that some expressions are made of.
+
 use crate::{Placed, ProductOp, SumOp};
 use item_tree::Str;
 

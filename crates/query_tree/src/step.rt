@@ -1,3 +1,5 @@
+//! Predicates and look-ups.
+
 use crate::Placed;
 use item_tree::Str;
 

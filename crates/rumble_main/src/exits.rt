@@ -1,3 +1,5 @@
+//! The statuses that the program exits with.
+
 ghost use Rattle.std.specs.Prelude.{◌≡◌};
 ghost use Rattle.std.specs.Process.{exit_status};
 ghost use Rattle.rumble_main.specs.Exits.{number_of};

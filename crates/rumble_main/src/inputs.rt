@@ -1,3 +1,5 @@
+//! The files of the system as inputs.
+
 ghost use Rattle.std.specs.Prelude.{◌≤◌, None, IfOk, length};
 
 use crate::kept::{Kept, KeptFile, read_whole};

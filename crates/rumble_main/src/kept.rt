@@ -1,3 +1,5 @@
+//! What can be read only once, kept for later opens.
+
 ghost use Rattle.std.specs.Prelude.{◌≡◌, IfOk, IfSome};
 
 use item_tree::Str;

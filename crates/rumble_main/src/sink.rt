@@ -1,3 +1,5 @@
+//! The standard streams and files as sinks.
+
 ghost use Rattle.std.specs.Prelude.{◌≡◌, nat_lt, None};
 
 use outside::{Failed, Sink};

@@ -1,3 +1,5 @@
+//! Tests of what is kept of a pipe.
+
 use crate::kept::{Kept, read_whole};
 use outside::InputFile;
 use std::test::Fail;

@@ -1,3 +1,5 @@
+//! The words of the command line.
+
 use item_tree::{NoMemory, Str};
 use std::alloc::Global;
 use std::env::{Args, Env};

@@ -1,3 +1,5 @@
+//! What a command line asks for.
+
 ghost use Rattle.std.specs.Prelude.{◌≡◌, IfOk};
 ghost use Rattle.rumble_run.specs.Commands.{command_for, command_of};
 

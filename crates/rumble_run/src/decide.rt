@@ -1,3 +1,5 @@
+//! What a command line evaluates to, before anything is written.
+
 ghost use Rattle.std.specs.Prelude.{◌≡◌, ◌≢◌, ℕ, List, None, Some, Ok, IfOk, IfErr, IfSome, length, string_bytes, IsErrOf};
 ghost use Rattle.query_meaning.specs.Outcome.{Outcome};
 ghost use Rattle.query_meaning.specs.Queries.{query_value};

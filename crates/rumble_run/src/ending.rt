@@ -1,3 +1,5 @@
+//! How a run ends, with what is to be written.
+
 use crate::status::{Status, Stop};
 use item_tree::NoMemory;
 use std::alloc::{AllocError, AllocFailed};

@@ -1,3 +1,5 @@
+//! Writes an ending.
+
 ghost use Rattle.std.specs.Prelude.{◌≡◌, string_bytes};
 ghost use Rattle.rumble_run.specs.Ends.{OutBy, err_by, Wrote};
 ghost use Rattle.rumble_run.specs.inside.Seen.{IsSilent, EndsAs};

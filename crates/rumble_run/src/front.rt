@@ -1,3 +1,5 @@
+//! From the bytes of a query to a compiled query.
+
 ghost use Rattle.std.specs.Prelude.{◌≡◌, IfSome};
 ghost use Rattle.item_tree.specs.Faults.{fault_at};
 ghost use Rattle.query_tree.specs.NamedViews.{named_query};

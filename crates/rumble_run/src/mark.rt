@@ -1,3 +1,5 @@
+//! The byte order mark.
+
 ghost use Rattle.std.specs.Prelude.{◌≡◌, ◌≤◌, length};
 ghost use Rattle.item_reader.specs.Lines.{without_mark};
 

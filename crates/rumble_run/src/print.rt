@@ -1,3 +1,5 @@
+//! Prints items, each on a line of its own.
+
 ghost use Rattle.std.specs.Prelude.{◌≡◌, IfOk, OnOk, ◌++◌, ◌∷◌, []};
 ghost use Rattle.item_tree.specs.Item.{datum, datums};
 ghost use Rattle.rumble_run.specs.Answer.{output_of};

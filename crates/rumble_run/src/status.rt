@@ -1,3 +1,5 @@
+//! The statuses of a run.
+
 /// How a call of the program ended.
 #[derive(Clone, Copy, Debug, PartialEq, Eq)]
 pub enum Status {

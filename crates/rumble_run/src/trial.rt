@@ -1,3 +1,5 @@
+//! The query and the inputs of a trial.
+
 ghost use Rattle.std.specs.Prelude.{◌≡◌, [], ◌∷◌, IfOk};
 ghost use Rattle.outside.specs.AfterCalls.{new_files};
 ghost use Rattle.rumble_run.specs.Trial.{trial_query, trial_world};

@@ -1,3 +1,5 @@
+//! What a command line may ask for.
+
 use item_tree::{NoMemory, Str};
 
 /// What a command line asks for.

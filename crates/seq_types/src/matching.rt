@@ -1,3 +1,5 @@
+//! Whether a sequence fits a type.
+
 ghost use Rattle.std.specs.Prelude.{◌≡◌};
 ghost use Rattle.std.specs.List.{list_all};
 ghost use Rattle.item_tree.specs.Item.{datum, datums};

@@ -1,3 +1,5 @@
+//! The names of types.
+
 ghost use Rattle.std.specs.Prelude.{◌≡◌};
 ghost use Rattle.std.specs.Str.{chars};
 ghost use Rattle.seq_types.specs.Names.{type_named};

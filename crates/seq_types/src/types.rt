@@ -1,3 +1,5 @@
+//! The types of sequences and of items.
+
 /// A type of sequences.
 #[derive(Clone, Copy, Debug, PartialEq, Eq)]
 pub enum SeqType {

@@ -1,3 +1,5 @@
+//! The names of inputs and of functions in calls.
+
 ghost use Rattle.std.specs.Prelude.{◌≡◌, ◌==◌, ◌&&◌, option_map, map, position, IfOk};
 ghost use Rattle.std.specs.Str.{bytes_eq};
 ghost use Rattle.static_rules.specs.Rules.{is_lines, are_texts, is_name_count, name_inputs};

@@ -1,3 +1,5 @@
+//! Expressions in which no other stands, and copies of what trees hold.
+
 ghost use Rattle.std.specs.Prelude.{◌≡◌, [], option_map, map, IfOk, OnOk};
 ghost use Rattle.query_tree.specs.Plain.{int_form, dec_form, text_form, var_form, context_form, name_lookup, text_lookup, var_lookup, context_lookup};
 ghost use Rattle.static_rules.specs.Mentions.{types_mentions, type_mentions};

@@ -1,3 +1,5 @@
+//! The static rules and their refusals.
+
 ghost use Rattle.std.specs.Prelude.{◌≡◌, if◌then◌else◌};
 ghost use Rattle.static_rules.specs.Refusals.{comes_before};
 ghost use Rattle.static_rules.specs.Rules.{code_of, rank};

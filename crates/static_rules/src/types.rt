@@ -1,3 +1,5 @@
+//! The types that a query names.
+
 ghost use Rattle.std.specs.Prelude.{◌≡◌, codes};
 ghost use Rattle.std.specs.Str.{bytes_eq};
 ghost use Rattle.query_tree.specs.Scopes.{is_at_most_one};

@@ -1,3 +1,5 @@
+//! What a walk over a query sees, and what it has found.
+
 ghost use Rattle.std.specs.Prelude.{◌≡◌, ℕ, ◌+◌, ◌-◌, ◌≤◌, not, ◌||◌, Some, None, List, [], ◌∷◌, unwrap_or, is_some, length, take, drop, IfOk, OnOk};
 ghost use Rattle.query_tree.specs.declared.bound.Slot.TheVariants.{Local};
 ghost use Rattle.query_tree.specs.declared.bound.Target.TheVariants.{Own};

@@ -1,3 +1,5 @@
+//! Tables of tuples of one width.
+
 ghost use Rattle.std.specs.Prelude.{◌≡◌, ◌<◌, IfOk, map};
 ghost use Rattle.tuple_rows.specs.Tuples.{AllOfWidth, sequences, row_list};
 ghost use Rattle.tuple_rows.specs.Cuts.{IsCut, EndsCut};

@@ -1,3 +1,5 @@
+//! Tuples.
+
 use item_tree::Item;
 
 /// What the stream of a query binds at one time: a sequence of items in each slot. Contracts see it

@@ -3,7 +3,8 @@ use Rattle.std.proofs.Common.{◌≡◌, pos, negsuc, [], ◌∷◌, Ok, Err, re
 use Rattle.std.specs.Prelude.{codes}
 use Rattle.item_tree.specs.declared.code.Code.TheVariants.{FOAR0002, FORG0006, JNTY0004, XPTY0004}
 use Rattle.item_tree.specs.Datum.{null, integer, decimal, text, array_of_list}
-use Rattle.value_rules.specs.Numbers.{abs_values, floor_values, ceiling_values, round_values, round_half_to_even_values, count_values, sum_values, avg_values, min_values, max_values}
+use Rattle.value_rules.specs.Numbers.{abs_values, floor_values, ceiling_values, round_values, round_half_to_even_values, sum_values, avg_values, min_values, max_values}
+use Rattle.value_rules.specs.Sequences.{count}
 use Rattle.num_fixed.specs.Values.{near, near_natural}
 
 sums_are_exact : sum_values (integer (pos 99999999999999999999) ∷ integer (pos 1) ∷ integer (negsuc 0) ∷ []) ≡ Ok (integer (pos 99999999999999999999) ∷ [])
@@ -53,5 +54,5 @@ null_goes_with_all = refl
 two_classes : min_values (null ∷ integer (pos 1) ∷ text (codes "a") ∷ []) ≡ Err FORG0006
 two_classes = refl
 
-counted : count_values (null ∷ null ∷ []) ≡ Ok (integer (pos 2) ∷ [])
+counted : count (null ∷ null ∷ []) ≡ Ok (integer (pos 2) ∷ [])
 counted = refl

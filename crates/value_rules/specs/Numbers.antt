@@ -6,6 +6,7 @@ use Rattle.item_tree.specs.declared.class.Class.{Class}
 use Rattle.item_tree.specs.declared.class.Class.TheVariants as class
 use Rattle.item_tree.specs.declared.code.Code.{Code}
 use Rattle.item_tree.specs.declared.code.Code.TheVariants.{FORG0006}
+use Rattle.item_tree.specs.Classes.{same_class}
 use Rattle.item_tree.specs.Compare.{compare_atoms}
 use Rattle.item_tree.specs.Datum.{Datum, null, boolean, integer, decimal, text, date, date_time, array, object}
 use Rattle.num_fixed.specs.Totals.{Tally, tally_of}
@@ -56,10 +57,7 @@ round_values vs = of_number (rounded rounded_up) vs
 abbrev pub round_half_to_even_values : List Datum → Result (List Datum) Code
 round_half_to_even_values vs = of_number (rounded rounded_even) vs
 
--- ---- counts, sums and means
-
-abbrev pub count_values : List Datum → Result (List Datum) Code
-count_values vs = Ok (integer (pos (length vs)) ∷ [])
+-- ---- sums and means
 
 -- an item that is added
 abbrev pub addend : Datum → Result Number Code
@@ -106,18 +104,6 @@ kin_of (date d) = of_class class.Date
 kin_of (date_time t) = of_class class.DateTime
 kin_of (array vs) = mixed
 kin_of (object ms) = mixed
-
--- the classes, numbered
-abbrev pub class_number : Class → ℕ
-class_number class.Null = 0
-class_number class.Boolean = 1
-class_number class.Number = 2
-class_number class.Text = 3
-class_number class.Date = 4
-class_number class.DateTime = 5
-
-abbrev pub same_class : Class → Class → Bool
-same_class c d = class_number c == class_number d
 
 abbrev pub joined_kin : Kin → Kin → Kin
 joined_kin unbound k = k

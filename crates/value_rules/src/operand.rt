@@ -1,3 +1,5 @@
+//! What an operand must be.
+
 ghost use Rattle.std.specs.Prelude.{◌≡◌, Ok, Err, Some, None, MatchResult, IfOk, IfSome, option_map};
 ghost use Rattle.std.specs.Str.{chars};
 ghost use Rattle.item_tree.specs.Datum.{IsAtomic, IsWhole};

@@ -1,3 +1,5 @@
+//! From arithmetic on numbers to items and codes.
+
 ghost use Rattle.std.specs.Prelude.{◌≡◌};
 ghost use Rattle.item_tree.specs.Item.{datum};
 ghost use Rattle.num_fixed.specs.Bounds.{NumberInBounds};

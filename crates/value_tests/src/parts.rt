@@ -101,6 +101,30 @@ fn parts_are_merged(rt: HostRuntime) -> Result<(), Fail> {
     Ok(())
 }
 
+/// How many of these items a part counts.
+fn counted<P: Partial>(s: &[Item]) -> Result<u64, NoMemory>
+    requires { length s.now < 1000 }
+{
+    let part = part_of::<P>(s)?;
+    Ok(part.how_many())
+}
+
+#[test]
+fn parts_tell_how_many_they_count(rt: HostRuntime) -> Result<(), Fail> {
+    let alloc = rt.alloc();
+    let s = items(alloc, "1 2 3 a 5")?;
+    if s.len() != 5 {
+        return Err(Fail::new("not five items"));
+    }
+    assert_eq!(rt; counted::<CountPart>(&s)?, 5);
+    assert_eq!(rt; counted::<SumPart>(&s)?, 0);
+    assert_eq!(rt; counted::<SumPart>(&s[..3])?, 3);
+    assert_eq!(rt; counted::<AvgPart>(&s[..3])?, 3);
+    assert_eq!(rt; counted::<MinPart>(&s)?, 0);
+    assert_eq!(rt; counted::<MaxPart>(&s)?, 0);
+    Ok(())
+}
+
 #[test]
 fn parts_of_nothing(rt: HostRuntime) -> Result<(), Fail> {
     let alloc = rt.alloc();

@@ -1,3 +1,5 @@
+//! Copies of items, which share what is large.
+
 use super::{Held, HeldPairs, Item, Items, Pairs};
 use crate::NoMemory;
 use std::alloc::AllocError;

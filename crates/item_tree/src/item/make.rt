@@ -1,3 +1,5 @@
+//! Makes arrays and objects.
+
 ghost use Rattle.std.specs.Prelude.{◌≡◌, ◌<◌, ◌++◌, ◌∷◌, [], IfOk, length, option_map};
 ghost use Rattle.std.specs.Arc.{arc_value};
 ghost use Rattle.item_tree.specs.Datum.{AllSound, MembersSound, values, members, array_of_list, object_of_pairs, depth as depth_of};

@@ -3,7 +3,7 @@ use Rattle.std.specs.Prelude.{ℕ, ◌+◌, ◌<◌, List, [], ◌∷◌, Option
 use Rattle.item_tree.specs.declared.class.Class.{Class}
 use Rattle.order_runs.specs.declared.column_seen.First.{First}
 use Rattle.order_runs.specs.declared.column_seen.ColumnSeen.{ColumnSeen}
-use Rattle.order_runs.specs.Clashes.{same_class}
+use Rattle.item_tree.specs.Classes.{same_class}
 use Rattle.order_runs.specs.Seen.{Sees, nothing, one, several}
 
 abbrev pub sees_of : Option First → Option ℕ → Sees

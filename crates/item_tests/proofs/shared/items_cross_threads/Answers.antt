@@ -1,5 +1,5 @@
 use denote.Param.Send.{sendable}
-use Rattle.item_tests.proofs.Crossing.{sent, seen}
+use Rattle.item_tree.proofs.Crossing.{sent, seen}
 use Rattle.item_tests.proofs.shared.items_cross_threads.Goals as goal
 
 pub crosses_threads-requires-2-send-T : goal.crosses_threads-requires-2-send-T
