@@ -1,0 +1,11 @@
+mod Alike
+mod AlikeParts
+mod AlikeRows
+mod AlikeClauses
+mod Calling
+pub mod Finding
+pub mod Streams
+mod Libraries
+pub mod Standing
+pub mod Naming
+pub mod Beside

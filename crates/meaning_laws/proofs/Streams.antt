@@ -1,0 +1,106 @@
+-- The clauses of a FLWOR in two programs in which the calls of their expressions find the same. For
+-- other crates too.
+use Rattle.std.proofs.Common.{◌≡◌, ℕ, suc, ◌+◌, ◌<◌, ◌==◌, if◌then◌else◌, List, [], ◌∷◌, ◌++◌, length, Ok, Err, refl, ap, ap₂, arith}
+use Rattle.std.proofs.lemmas.List.Elements.{recursion_from_All}
+use Rattle.seq_types.specs.declared.types.SeqType.{SeqType}
+use Rattle.query_tree.specs.declared.bound.Slot.{Slot}
+use Rattle.query_tree.specs.declared.bound.Target.{Target}
+use Rattle.query_tree.specs.Bound.{BoundTree}
+use Rattle.query_tree.specs.Calls.{calls}
+use Rattle.query_tree.specs.Plain as p
+use Rattle.query_tree.specs.Plain.{PlainClause, PlainClauses}
+use Rattle.query_tree.specs.Subtrees.{subtrees, clause_subtrees, clauses_subtrees}
+use Rattle.query_meaning.specs.Outcome.{OrFault}
+use Rattle.query_meaning.specs.Environment.{Tuple, Environment}
+use Rattle.query_meaning.specs.Calls.{Program}
+use Rattle.query_meaning.specs.Clauses.{clause_value}
+use Rattle.query_meaning.specs.Flwors.{with_slots, flwor_from}
+use Rattle.query_meaning.specs.Meaning.{eval}
+use Rattle.query_meaning.specs.Pieces.{taken_in}
+use Rattle.query_meaning.specs.Sources.{clause_sources, clauses_sources}
+use Rattle.meaning_laws.specs.Agreement.{IsOfBoth, SameForCall, CallsTheSame}
+use Rattle.meaning_laws.specs.Laws.{FlworsFindCalls}
+use Rattle.meaning_laws.proofs.Alike.{AlikeTuples, Within, Looks, halves, then_same}
+use Rattle.meaning_laws.proofs.AlikeRows.{Match, Rows}
+use Rattle.meaning_laws.proofs.AlikeClauses.{clause-match, from-same}
+use Rattle.meaning_laws.proofs.Calling.{of_any}
+use Rattle.meaning_laws.proofs.Finding.{Finds, Anything, any_alike, with_anything, eval-looks}
+
+-- ---- tuples in which all is the same are one
+
+in_rest : (a b n : ℕ) → IsOfBoth (suc a) (suc b) (suc n) → IsOfBoth a b n
+in_rest a b n s = (
+  λ (l : n < a). let h : suc n < suc a = omega arith in let k : suc n < suc b = s.0 h in omega arith,
+  λ (l : n < b). let h : suc n < suc b = omega arith in let k : suc n < suc a = s.1 h in omega arith,
+)
+
+one_tuple : (t u : Tuple) → AlikeTuples Anything t u → t ≡ u
+one_tuple [] [] a = refl
+one_tuple [] (y ∷ u) a =
+    let h : 0 < suc (length u) = omega arith in
+    let l : 0 < 0 = (a.there 0 tt).1 h in
+    absurd (omega arith)
+one_tuple (x ∷ t) [] a =
+    let h : 0 < suc (length t) = omega arith in
+    let l : 0 < 0 = (a.there 0 tt).0 h in
+    absurd (omega arith)
+one_tuple (x ∷ t) (y ∷ u) a =
+    ap₂ (λ z zs. z ∷ zs) (a.values 0 tt) (one_tuple t u (record { there = λ n r. in_rest (length t) (length u) n (a.there (suc n) tt); values = λ n r. a.values (suc n) r }))
+
+one_list : (ts us : List Tuple) → Rows Anything ts us → ts ≡ us
+one_list [] [] h = refl
+one_list [] (u ∷ us) h = absurd h
+one_list (t ∷ ts) [] h = absurd h
+one_list (t ∷ ts) (u ∷ us) h = ap₂ (λ x xs. x ∷ xs) (one_tuple t u h.0) (one_list ts us h.1)
+
+one_result : (r s : OrFault (List Tuple)) → Match (Rows Anything) r s → r ≡ s
+one_result (Ok ts) (Ok us) h = ap (λ xs. Ok xs) (one_list ts us h)
+one_result (Ok ts) (Err fault) h = absurd h
+one_result (Err fault) (Ok us) h = absurd h
+one_result (Err fault) (Err other) h = ap (λ f. Err f) h
+
+themselves : (ts : List Tuple) → Rows Anything ts ts
+themselves [] = tt
+themselves (t ∷ ts) = (record { there = λ n r. (λ l. l, λ l. l); values = λ n r. refl }, themselves ts)
+
+-- ---- clauses
+
+module _ (program beside : Program) (depth : ℕ) (env : Environment) where
+  abbrev P : BoundTree → Type 0
+  P t = Finds Anything program beside t
+
+  looks : Looks Anything P (eval program depth) (eval beside depth)
+  looks t w one other alike = eval-looks program beside depth Anything t w one other alike
+
+  clause-same : (number : ℕ) (stream : List Slot) (c : PlainClause Slot Target SeqType) (ts : List Tuple) → Within P (clause_subtrees c) → clause_value (eval program depth) number stream c env ts ≡ clause_value (eval beside depth) number stream c env ts
+  clause-same number stream c ts w =
+      one_result (clause_value (eval program depth) number stream c env ts) (clause_value (eval beside depth) number stream c env ts)
+      (clause-match Anything P (eval program depth) (eval beside depth) looks env env (any_alike env) number stream c (of_any Anything (λ s. tt) (clause_sources c)) w ts ts (themselves ts))
+
+  items-same : (number : ℕ) (stream : List Slot) (cs : PlainClauses Slot Target SeqType) (result : BoundTree) (ts : List Tuple) → Within P (clauses_subtrees cs ++ subtrees result) → flwor_from (eval program depth) number stream cs result env ts ≡ flwor_from (eval beside depth) number stream cs result env ts
+  items-same number stream cs result ts w =
+      let ws = halves P (clauses_subtrees cs) (subtrees result) w in
+      from-same Anything P (eval program depth) (eval beside depth) looks env env (any_alike env) number stream cs result (of_any Anything (λ s. tt) (clauses_sources cs)) ws.0 ws.1 ts ts (themselves ts)
+
+  taken-same : (clause number : ℕ) (stream : List Slot) (cs : PlainClauses Slot Target SeqType) (ts : List Tuple) → Within P (clauses_subtrees cs) → taken_in (eval program depth) number stream cs env clause ts ≡ taken_in (eval beside depth) number stream cs env clause ts
+  taken-same clause number stream p.no_clauses ts w = refl
+  taken-same clause number stream (p.more_clauses c cs) ts w =
+      let ws = halves P (clause_subtrees c) (clauses_subtrees cs) w in
+      ap (λ r. if clause == number then Ok ts else r)
+      (then_same (λ next. taken_in (eval program depth) (number + 1) (with_slots stream c) cs env clause next) (λ next. taken_in (eval beside depth) (number + 1) (with_slots stream c) cs env clause next)
+      (clause_value (eval program depth) number stream c env ts) (clause_value (eval beside depth) number stream c env ts) (clause-same number stream c ts ws.0) (λ next. taken-same clause (number + 1) (with_slots stream c) cs next ws.1))
+
+-- what the trees of a FLWOR find
+flwor-finds : (program beside : Program) (place : ℕ) (cs : PlainClauses Slot Target SeqType) (result : BoundTree) → CallsTheSame (p.tree_node place (p.flwor_form cs place result)) program beside → Within (Finds Anything program beside) (clauses_subtrees cs ++ subtrees result)
+flwor-finds program beside place cs result h =
+    with_anything program beside (clauses_subtrees cs ++ subtrees result)
+    (recursion_from_All (λ c. SameForCall program beside c.name) (calls (p.tree_node place (p.flwor_form cs place result))) h)
+
+pub flwors_find : FlworsFindCalls
+flwors_find = record {
+  items = λ program beside depth number place stream cs result env ts h.
+      items-same program beside depth env number stream cs result ts (flwor-finds program beside place cs result h);
+  taken = λ program beside depth number place stream cs result env clause ts h.
+      let ws = halves (Finds Anything program beside) (clauses_subtrees cs) (subtrees result) (flwor-finds program beside place cs result h) in
+      taken-same program beside depth env clause number stream cs ts ws.0;
+}

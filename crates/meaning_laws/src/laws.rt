@@ -1,0 +1,57 @@
+//! Laws of the meaning of queries. Each holds of all values: a call brings it to a proof, and does
+//! nothing when it runs.
+
+ghost use Rattle.query_tree.specs.Compiled.{BoundTrees};
+ghost use Rattle.meaning_laws.specs.Beside.{ExpressionsStand, NamesBesideSuffice};
+ghost use Rattle.meaning_laws.specs.Laws.{EvalFindsCalls, EvalReadsNames, LeavesReadNames, FlworsFindCalls, QueriesReadNames, LibrariesAgree};
+
+/// An expression comes to the same in two environments and programs in which all that it reads is the
+/// same, and all that its calls find: the inputs that they name, and at a call of a declared function
+/// all functions and what their bodies name. The frames may be of different widths, where each slot
+/// that is read is in both or in neither.
+pub fn eval_finds_calls()
+    ensures { EvalFindsCalls }
+{}
+
+/// An expression comes to the same over two libraries that agree on the names that it calls, and on
+/// those that the bodies of functions call.
+pub fn eval_reads_names()
+    ensures { EvalReadsNames }
+{}
+
+/// An expression that calls no declared function comes to the same over two libraries that agree on
+/// the names that it calls. All others may be missing.
+pub fn leaves_read_names()
+    ensures { LeavesReadNames }
+{}
+
+/// What the clauses of a FLWOR come to, from any one on, and the tuples that each of them takes in,
+/// are the same in two programs in which the calls in them find the same.
+pub fn flwors_find_calls()
+    ensures { FlworsFindCalls }
+{}
+
+/// A query comes to the same over two libraries that agree on the names of its inputs. All others
+/// may be missing.
+pub fn queries_read_names()
+    ensures { QueriesReadNames }
+{}
+
+/// When the calls of an expression find the same, and what libraries hold from which names are
+/// missing, or that are read for some names.
+pub fn libraries_agree()
+    ensures { LibrariesAgree }
+{}
+
+/// The body of a query and the expressions of its declarations are among its expressions, with all
+/// that stand inside them.
+pub fn expressions_stand()
+    ensures { (m : BoundTrees) → ExpressionsStand m }
+{}
+
+/// Leaving out the inputs that only drivers of a plan read changes nothing but at the drivers: an
+/// expression of the query in which no call is a driver comes to the same over libraries that agree
+/// on the names beside the drivers, as do the declared variables and parts of a FLWOR.
+pub fn names_beside_suffice()
+    ensures { NamesBesideSuffice }
+{}
