@@ -27,9 +27,9 @@ use Rattle.query_meaning.specs.Queries.{program_of}
 use Rattle.meaning_laws.specs.Agreement.{names_called, names_in_bodies, AgreeOn, SameFunctions, CallsTheSame}
 use Rattle.meaning_laws.specs.Beside.{expressions, StandsIn, is_beside, variables_beside, functions_beside, flwor_of, BesideTheSame, NamesBesideSuffice}
 use Rattle.meaning_laws.proofs.Alike.{both_parts}
-use Rattle.meaning_laws.proofs.Calling.{Agree, of_each}
+use Rattle.meaning_laws.proofs.Calling.{of_each, of_joined, Agree}
 use Rattle.meaning_laws.proofs.Finding.{finds_calls}
-use Rattle.meaning_laws.proofs.Naming.{Held, itself, same_functions, same_calls, of_all_names, both_joined, in_bodies, globals-same, one_width}
+use Rattle.meaning_laws.proofs.Naming.{Held, itself, same_functions, same_calls, of_all_names, in_bodies, globals-same, one_width}
 use Rattle.meaning_laws.proofs.Standing.{InBody, InValue, expressions_stand}
 
 abbrev Names : Type 0
@@ -171,7 +171,7 @@ module _ (ds : List DriverPlan) (m : BoundTrees) (library other : Library) (agre
       let parts = both_parts P (flat_map b (of before) ++ flat_map b (of part) ++ flat_map b (of after)) (flat_map b (subtrees result)) (subst (AllByRecursion P) split whole) in
       let front = both_parts P (flat_map b (of before) ++ flat_map b (of part)) (flat_map b (of after)) parts.0 in
       let middle = (both_parts P (flat_map b (of before)) (flat_map b (of part)) front.0).1 in
-      let own : AllByRecursion P (flat_map b (subtrees (flwor_of place part result))) = subst (AllByRecursion P) (sym (flat_map-append b (of part) (subtrees result))) (both_joined P (flat_map b (of part)) (flat_map b (subtrees result)) middle parts.1) in
+      let own : AllByRecursion P (flat_map b (subtrees (flwor_of place part result))) = subst (AllByRecursion P) (sym (flat_map-append b (of part) (subtrees result))) (of_joined P (flat_map b (of part)) (flat_map b (subtrees result)) middle parts.1) in
       subst (AllByRecursion P) (all_beside ds (subtrees (flwor_of place part result)) h) own
 
   pub beside_same : BesideTheSame ds m library other

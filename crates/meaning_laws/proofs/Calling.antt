@@ -1,5 +1,5 @@
 -- What the calls of trees find in two programs.
-use Rattle.std.proofs.Common.{◌≡◌, ℕ, zero, suc, ◌<◌, ◌≤◌, ◌||◌, Bool, true, false, replicate, List, [], ◌∷◌, map, length, slice_get, Option, Some, None, Ok, Err, refl, sym, ap, ap₂, ◌∙◌, ⊎_elim, arith}
+use Rattle.std.proofs.Common.{◌≡◌, ℕ, zero, suc, ◌<◌, ◌≤◌, ◌||◌, Bool, true, false, replicate, List, [], ◌∷◌, ◌++◌, map, length, slice_get, Option, Some, None, Ok, Err, refl, sym, ap, ap₂, ◌∙◌, ⊎_elim, arith}
 use Rattle.std.specs.Prelude.{IfSome}
 use Rattle.std.specs.List.{AllByRecursion, filter_map, cons_option, list_any}
 use Rattle.std.proofs.lemmas.Bool.{cases_lt}
@@ -40,6 +40,10 @@ of_each P Q h (x ∷ xs) p = (h x p.0, of_each P Q h xs p.1)
 pub of_both : {X : Type 0} (P Q : X → Type 0) (xs : List X) → AllByRecursion P xs → AllByRecursion Q xs → AllByRecursion (λ x. P x × Q x) xs
 of_both P Q [] p q = tt
 of_both P Q (x ∷ xs) p q = ((p.0, q.0), of_both P Q xs p.1 q.1)
+
+pub of_joined : {X : Type 0} (P : X → Type 0) (xs ys : List X) → AllByRecursion P xs → AllByRecursion P ys → AllByRecursion P (xs ++ ys)
+of_joined P [] ys p q = q
+of_joined P (x ∷ xs) ys p q = (p.0, of_joined P xs ys p.1 q)
 
 pub of_found : {X : Type 0} (P : X → Type 0) (xs : List X) (n : ℕ) → AllByRecursion P xs → IfSome (slice_get xs n) P
 of_found P [] n p = tt

@@ -9,3 +9,5 @@ mod Libraries
 pub mod Standing
 pub mod Naming
 pub mod Beside
+mod Slots
+pub mod Widths

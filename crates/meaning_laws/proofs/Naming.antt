@@ -29,7 +29,7 @@ use Rattle.query_meaning.specs.Queries.{whole_depth, outermost, global_value, gl
 use Rattle.meaning_laws.specs.Agreement.{FitsBoth, ReadsTheSame, names_called, names_in_bodies, sources_in_bodies, AgreeOn, SameFunctions, SameForCall, CallsTheSame, calls_declared, only}
 use Rattle.meaning_laws.specs.Laws.{EvalReadsNames, LibrariesAgree, LeavesReadNames, QueriesReadNames}
 use Rattle.meaning_laws.proofs.Alike.{both_parts, then_same, of_lengths}
-use Rattle.meaning_laws.proofs.Calling.{of_any, of_each, nothing_read, Agree, calls-find}
+use Rattle.meaning_laws.proofs.Calling.{of_any, of_each, of_joined, nothing_read, Agree, calls-find}
 use Rattle.meaning_laws.proofs.Finding.{finds_calls}
 use Rattle.meaning_laws.proofs.Standing.{InBody, InValue, each_declared}
 use Rattle.meaning_laws.proofs.Libraries.{agree_only, missing, held_read, unread}
@@ -119,10 +119,6 @@ pub of_all_names : (P : List ℕ → Type 0) (ns : List (List ℕ)) → AllByRec
 of_all_names P [] h = tt
 of_all_names P (n ∷ ns) h = (h.0, of_all_names P ns (with_others P n h.0 (first_appearances ns) h.1))
 
-pub both_joined : (P : List ℕ → Type 0) (ms ns : List (List ℕ)) → AllByRecursion P ms → AllByRecursion P ns → AllByRecursion P (ms ++ ns)
-both_joined P [] ns p q = q
-both_joined P (m ∷ ms) ns p q = (p.0, both_joined P ms ns p.1 q)
-
 each_tree : (P : List ℕ → Type 0) (ts : List BoundTree) → AllByRecursion P (all_names (flat_map calls ts)) → AllByRecursion (Held P) ts
 each_tree P [] h = tt
 each_tree P (t ∷ ts) h =
@@ -132,7 +128,7 @@ each_tree P (t ∷ ts) h =
 
 pub in_bodies : (P : List ℕ → Type 0) (fs : List (PlainFunction Slot Target SeqType)) → AllByRecursion (InBody (Held P)) fs → AllByRecursion P (names_in_bodies fs)
 in_bodies P [] h = tt
-in_bodies P (f ∷ fs) h = both_joined P (names_called f.body) (names_in_bodies fs) h.0 (in_bodies P fs h.1)
+in_bodies P (f ∷ fs) h = of_joined P (names_called f.body) (names_in_bodies fs) h.0 (in_bodies P fs h.1)
 
 -- ---- queries
 

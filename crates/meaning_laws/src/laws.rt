@@ -4,6 +4,7 @@
 ghost use Rattle.query_tree.specs.Compiled.{BoundTrees};
 ghost use Rattle.meaning_laws.specs.Beside.{ExpressionsStand, NamesBesideSuffice};
 ghost use Rattle.meaning_laws.specs.Laws.{EvalFindsCalls, EvalReadsNames, LeavesReadNames, FlworsFindCalls, QueriesReadNames, LibrariesAgree};
+ghost use Rattle.meaning_laws.specs.Widths.{WiderFramesMeanTheSame};
 
 /// An expression comes to the same in two environments and programs in which all that it reads is the
 /// same, and all that its calls find: the inputs that they name, and at a call of a declared function
@@ -54,4 +55,10 @@ pub fn expressions_stand()
 /// on the names beside the drivers, as do the declared variables and parts of a FLWOR.
 pub fn names_beside_suffice()
     ensures { NamesBesideSuffice }
+{}
+
+/// Frames that are wide enough for a compiled query do equally well, however much wider they are: it
+/// comes to the same, and so do its declared variables, and each expression that is bound over them.
+pub fn wider_frames_mean_the_same()
+    ensures { WiderFramesMeanTheSame }
 {}
