@@ -62,7 +62,7 @@ both_past a b n s l = ⊎_elim (λ (h : n < b). let k : n < a = s.1 h in absurd 
 pub of_lengths : (a b c d n : ℕ) → c ≡ a → d ≡ b → IsOfBoth a b n → IsOfBoth c d n
 of_lengths a b c d n e f s = subst (λ w. IsOfBoth w d n) (sym e) (subst (λ w. IsOfBoth a w n) (sym f) s)
 
-set_same : (t u : Tuple) (n : ℕ) (value : List Datum) → IsOfBoth (length t) (length u) n → get_or (set t n value) n [] ≡ get_or (set u n value) n []
+pub set_same : (t u : Tuple) (n : ℕ) (value : List Datum) → IsOfBoth (length t) (length u) n → get_or (set t n value) n [] ≡ get_or (set u n value) n []
 set_same t u n value s = ⊎_elim
     (λ (h : n < length t). get_or-set_same t n value [] h ∙ sym (get_or-set_same u n value [] (s.0 h)))
     (λ (h : length t ≤ n).

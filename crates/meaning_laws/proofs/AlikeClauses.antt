@@ -28,7 +28,7 @@ use Rattle.meaning_laws.proofs.Alike.{both_parts, halves, AlikeTuples, Alike, Wi
 use Rattle.meaning_laws.proofs.AlikeParts.{truth-same}
 use Rattle.meaning_laws.proofs.AlikeRows.{Match, then_match, one_match, tuple_match, each_match, each_same, Rows, KeyedAlike, group-alike, order-alike}
 
-themselves : (xs : List Datum) → AllZip (λ x y. x ≡ y) xs xs
+pub themselves : (xs : List Datum) → AllZip (λ x y. x ≡ y) xs xs
 themselves [] = tt
 themselves (x ∷ xs) = (refl, themselves xs)
 

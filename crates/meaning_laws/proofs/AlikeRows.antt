@@ -77,6 +77,44 @@ each_same Q f g each n [] (y ∷ ys) h = absurd h
 each_same Q f g each n (x ∷ xs) [] h = absurd h
 each_same Q f g each n (x ∷ xs) (y ∷ ys) h = ap₂ joined (each n x y h.0) (each_same Q f g each (n + 1) xs ys h.1)
 
+-- ---- orders
+
+-- the same keys, and tuples that go together
+module _ (Q : Tuple → Tuple → Type 0) where
+  abbrev pub KeyedBy : Keyed → Keyed → Type 0
+  KeyedBy p q = (p.0 ≡ q.0) × Q p.1 q.1
+
+  below-same : (columns : List Column) (x y p q : Keyed) → x.0 ≡ y.0 → p.0 ≡ q.0 → below columns x p ≡ below columns y q
+  below-same columns x y p q d e = ap₂ (λ k l. is_lt (keys_order columns k l)) d e
+
+  pick : (b : Bool) (p q x y : Keyed) (X Y PX PY : List Keyed) → KeyedBy p q → KeyedBy x y → AllZip KeyedBy X Y → AllZip KeyedBy PX PY → AllZip KeyedBy (if b then x ∷ PX else (p ∷ x ∷ X)) (if b then y ∷ PY else (q ∷ y ∷ Y))
+  pick true p q x y X Y PX PY a b h k = (b, k)
+  pick false p q x y X Y PX PY a b h k = (a, (b, h))
+
+  placed-alike : (columns : List Column) (p q : Keyed) (X Y : List Keyed) → KeyedBy p q → AllZip KeyedBy X Y → AllZip KeyedBy (placed (below columns) p X) (placed (below columns) q Y)
+  placed-alike columns p q [] [] a h = (a, tt)
+  placed-alike columns p q [] (y ∷ Y) a h = absurd h
+  placed-alike columns p q (x ∷ X) [] a h = absurd h
+  placed-alike columns p q (x ∷ X) (y ∷ Y) a h =
+      subst (λ b. AllZip KeyedBy (placed (below columns) p (x ∷ X)) (if b then y ∷ placed (below columns) q Y else (q ∷ y ∷ Y)))
+      (below-same columns x y p q h.0.0 a.0)
+      (pick (below columns x p) p q x y X Y (placed (below columns) p X) (placed (below columns) q Y) a h.0 h.1 (placed-alike columns p q X Y a h.1))
+
+  sorted-alike : (columns : List Column) (X Y : List Keyed) → AllZip KeyedBy X Y → AllZip KeyedBy (sorted columns X) (sorted columns Y)
+  sorted-alike columns [] [] h = tt
+  sorted-alike columns [] (y ∷ Y) h = absurd h
+  sorted-alike columns (x ∷ X) [] h = absurd h
+  sorted-alike columns (x ∷ X) (y ∷ Y) h = placed-alike columns x y (sorted columns X) (sorted columns Y) h.0 (sorted-alike columns X Y h.1)
+
+  rows-alike : (X Y : List Keyed) → AllZip KeyedBy X Y → AllZip Q (rows X) (rows Y)
+  rows-alike [] [] h = tt
+  rows-alike [] (y ∷ Y) h = absurd h
+  rows-alike (x ∷ X) [] h = absurd h
+  rows-alike (x ∷ X) (y ∷ Y) h = (h.0.1, rows-alike X Y h.1)
+
+  pub order-rows : (columns : List Column) (X Y : List Keyed) → AllZip KeyedBy X Y → AllZip Q (rows (sorted columns X)) (rows (sorted columns Y))
+  order-rows columns X Y h = rows-alike (sorted columns X) (sorted columns Y) (sorted-alike columns X Y h)
+
 -- ---- groups
 
 module _ (R : Source → Type 0) where
@@ -164,35 +202,5 @@ module _ (R : Source → Type 0) where
   group-alike width width' s keys slots X Y h =
       subst (λ l. Rows (group_rows width keys slots X) (rows_of width' keys slots Y (firsts same_lists l))) (keys_same X Y h) (rows_of-alike width width' s keys slots X Y h (firsts same_lists (map (λ p. p.0) X)))
 
-  -- ---- orders
-
-  below-same : (columns : List Column) (x y p q : Keyed) → x.0 ≡ y.0 → p.0 ≡ q.0 → below columns x p ≡ below columns y q
-  below-same columns x y p q d e = ap₂ (λ k l. is_lt (keys_order columns k l)) d e
-
-  pick : (b : Bool) (p q x y : Keyed) (X Y PX PY : List Keyed) → KeyedAlike p q → KeyedAlike x y → AllZip KeyedAlike X Y → AllZip KeyedAlike PX PY → AllZip KeyedAlike (if b then x ∷ PX else (p ∷ x ∷ X)) (if b then y ∷ PY else (q ∷ y ∷ Y))
-  pick true p q x y X Y PX PY a b h k = (b, k)
-  pick false p q x y X Y PX PY a b h k = (a, (b, h))
-
-  placed-alike : (columns : List Column) (p q : Keyed) (X Y : List Keyed) → KeyedAlike p q → AllZip KeyedAlike X Y → AllZip KeyedAlike (placed (below columns) p X) (placed (below columns) q Y)
-  placed-alike columns p q [] [] a h = (a, tt)
-  placed-alike columns p q [] (y ∷ Y) a h = absurd h
-  placed-alike columns p q (x ∷ X) [] a h = absurd h
-  placed-alike columns p q (x ∷ X) (y ∷ Y) a h =
-      subst (λ b. AllZip KeyedAlike (placed (below columns) p (x ∷ X)) (if b then y ∷ placed (below columns) q Y else (q ∷ y ∷ Y)))
-      (below-same columns x y p q h.0.0 a.0)
-      (pick (below columns x p) p q x y X Y (placed (below columns) p X) (placed (below columns) q Y) a h.0 h.1 (placed-alike columns p q X Y a h.1))
-
-  sorted-alike : (columns : List Column) (X Y : List Keyed) → AllZip KeyedAlike X Y → AllZip KeyedAlike (sorted columns X) (sorted columns Y)
-  sorted-alike columns [] [] h = tt
-  sorted-alike columns [] (y ∷ Y) h = absurd h
-  sorted-alike columns (x ∷ X) [] h = absurd h
-  sorted-alike columns (x ∷ X) (y ∷ Y) h = placed-alike columns x y (sorted columns X) (sorted columns Y) h.0 (sorted-alike columns X Y h.1)
-
-  pub rows-alike : (X Y : List Keyed) → AllZip KeyedAlike X Y → Rows (rows X) (rows Y)
-  rows-alike [] [] h = tt
-  rows-alike [] (y ∷ Y) h = absurd h
-  rows-alike (x ∷ X) [] h = absurd h
-  rows-alike (x ∷ X) (y ∷ Y) h = (h.0.1, rows-alike X Y h.1)
-
   pub order-alike : (columns : List Column) (X Y : List Keyed) → AllZip KeyedAlike X Y → Rows (rows (sorted columns X)) (rows (sorted columns Y))
-  order-alike columns X Y h = rows-alike (sorted columns X) (sorted columns Y) (sorted-alike columns X Y h)
+  order-alike columns X Y h = order-rows (AlikeTuples R) columns X Y h

@@ -1,8 +1,7 @@
 -- The names that an expression calls in which no call is a driver are read beside the drivers. For
 -- other crates too.
 use Rattle.std.proofs.Common.{◌≡◌, ℕ, Bool, true, false, cond, not, ◌||◌, Option, None, Some, List, [], ◌∷◌, ◌++◌, refl, sym, ap, subst, ◌∙◌}
-use Rattle.std.specs.Prelude.{filter}
-use Rattle.std.specs.List.{AllByRecursion, flat_map, filter_map, cons_option, list_any, list_all}
+use Rattle.std.specs.List.{AllByRecursion, flat_map, filter_map, cons_option, list_any}
 use Rattle.std.proofs.lemmas.Bool.{and_parts, false≢true}
 use Rattle.std.proofs.lemmas.List.{append_assoc}
 use Rattle.std.proofs.lemmas.List.Concat.{flat_map-append}
@@ -13,7 +12,7 @@ use Rattle.query_tree.specs.declared.bound.Target.{Target}
 use Rattle.query_tree.specs.declared.bound.Target.TheVariants.{Built, Own, Lines}
 use Rattle.query_tree.specs.declared.names.Placed.{Placed}
 use Rattle.query_tree.specs.Plain as p
-use Rattle.query_tree.specs.Plain.{PlainClause, PlainClauses}
+use Rattle.query_tree.specs.Plain.{PlainClause}
 use Rattle.query_tree.specs.Bound.{BoundTree}
 use Rattle.query_tree.specs.Calls.{own_call, calls}
 use Rattle.query_tree.specs.Compiled.{BoundTrees}

@@ -10,4 +10,8 @@ pub mod Standing
 pub mod Naming
 pub mod Beside
 mod Slots
+mod Sight
+mod SightParts
+mod SightClauses
 pub mod Widths
+pub mod Accepted

@@ -1,5 +1,5 @@
 -- What is bound over frames of a width reads no slot beyond them.
-use Rattle.std.proofs.Common.{◌≡◌, ℕ, ◌&&◌, Bool, true, List, [], ◌∷◌, ◌++◌, Option, Some, None, ap, subst, ◌∙◌}
+use Rattle.std.proofs.Common.{◌≡◌, ℕ, ◌&&◌, Bool, true, List, [], ◌∷◌, ◌++◌, Option, Some, None, ap, subst}
 use Rattle.std.specs.Prelude.{nat_lt}
 use Rattle.std.specs.List.{AllByRecursion, flat_map}
 use Rattle.std.proofs.lemmas.Bool.{and_parts, false≢true}
@@ -11,7 +11,7 @@ use Rattle.query_tree.specs.declared.bound.Target.TheVariants.{Built, Own, Lines
 use Rattle.query_tree.specs.declared.names.Placed.{Placed}
 use Rattle.query_tree.specs.Plain as p
 use Rattle.query_tree.specs.Plain.{Trees, Form, MaybeTree, PlainOperand, PlainOperands, PlainTerm, PlainTerms, PlainFactor, PlainFactors, PlainBind, PlainBinds, PlainCase, PlainCases, PlainTypeCase, PlainTypeCases, PlainCatch, PlainCatches, PlainPair, PlainPairs, PlainStep, PlainSteps, PlainLookup, PlainClause, PlainClauses, PlainGroupVar, PlainGroupVars, PlainOrderKey, PlainOrderKeys}
-use Rattle.query_tree.specs.Scopes.{Locals, below, Scope, has_local, may_read, may_bind, may_bind_any, may_call, and_local, with_slot, with_any, with_item, is_cast_type}
+use Rattle.query_tree.specs.Scopes.{below, Scope, has_local, may_read, may_bind, may_bind_any, may_call, and_local, with_slot, with_any, with_item, is_cast_type}
 use Rattle.query_tree.specs.Scoped.{key_slot}
 use Rattle.query_tree.specs.Bound.{BoundTree, how_many, after_key, after_keys, after_clause, after_clauses, after_bind, after_binds, is_bound, form_bound, content_bound, trees_bound, operand_bound, operands_bound, term_bound, terms_bound, factor_bound, factors_bound, bind_bound, binds_bound, case_bound, cases_bound, type_case_bound, type_cases_bound, catch_bound, catches_bound, pair_bound, pairs_bound, step_bound, steps_bound, lookup_bound, clause_bound, clauses_bound, group_var_bound, group_vars_bound, order_key_bound, order_keys_bound}
 use Rattle.query_tree.specs.Subtrees.{subtrees, form_subtrees, content_subtrees, trees_subtrees, operand_subtrees, operands_subtrees, term_subtrees, terms_subtrees, factor_subtrees, factors_subtrees, bind_subtrees, binds_subtrees, case_subtrees, cases_subtrees, type_case_subtrees, type_cases_subtrees, catch_subtrees, catches_subtrees, pair_subtrees, pairs_subtrees, step_subtrees, steps_subtrees, lookup_subtrees, clause_subtrees, clauses_subtrees, group_var_subtrees, group_vars_subtrees, order_key_subtrees, order_keys_subtrees}

@@ -1,6 +1,5 @@
 -- The width of frames makes no difference to a compiled query.
-use Rattle.std.proofs.Common.{◌≡◌, ℕ, zero, suc, ◌+◌, ◌<◌, ◌≤◌, true, List, [], ◌∷◌, ◌++◌, length, slice_get, Some, refl, subst, arith}
-use Rattle.std.specs.Prelude.{nat_lt}
+use Rattle.std.proofs.Common.{◌≡◌, ℕ, suc, ◌+◌, ◌<◌, ◌≤◌, true, List, [], ◌∷◌, length, slice_get, Some, refl, subst, arith}
 use Rattle.std.specs.List.{AllByRecursion}
 use Rattle.std.proofs.lemmas.Bool.{ltb-true}
 use Rattle.std.proofs.lemmas.List.Elements.{All-from_recursion}
@@ -12,10 +11,9 @@ use Rattle.query_tree.specs.Bound.{BoundTree, is_bound}
 use Rattle.query_tree.specs.Compiled.{BoundTrees, IsFramed, variable_scope, body_scope}
 use Rattle.query_tree.specs.Modules.{PlainVariable, PlainFunction}
 use Rattle.query_tree.specs.Scopes.{Scope, below}
-use Rattle.query_meaning.specs.Environment.{Environment}
-use Rattle.query_meaning.specs.Sources.{Source, of_variable, of_context, of_declared, sources, SameIn}
-use Rattle.meaning_laws.specs.Agreement.{FitsBoth, ReadsTheSame, sources_in_bodies}
-use Rattle.meaning_laws.specs.Widths.{WidthsMeanTheSame, WiderFramesMeanTheSame}
+use Rattle.query_meaning.specs.Sources.{Source, of_variable, of_context, of_declared, sources}
+use Rattle.meaning_laws.specs.Agreement.{FitsBoth, sources_in_bodies}
+use Rattle.meaning_laws.specs.Widths.{WiderFramesMeanTheSame}
 use Rattle.meaning_laws.proofs.Calling.{of_each, of_joined}
 use Rattle.meaning_laws.proofs.Naming.{SlotsFit, query-same, variables-same}
 use Rattle.meaning_laws.proofs.Slots.{Below, reads-below}

@@ -1,6 +1,6 @@
 -- Laws of what an expression looks for: the meaning of an expression, of clauses and of a query is
 -- the same wherever all that they look for is the same.
-use Rattle.std.specs.Prelude.{◌≡◌, ℕ, ◌≤◌, true, false, List, None}
+use Rattle.std.specs.Prelude.{◌≡◌, ℕ, true, false, List, None}
 use Rattle.std.specs.List.{All}
 use Rattle.outside.specs.World.{World}
 use Rattle.seq_types.specs.declared.types.SeqType.{SeqType}
@@ -9,8 +9,7 @@ use Rattle.query_tree.specs.declared.bound.Target.{Target}
 use Rattle.query_tree.specs.Bound.{BoundTree}
 use Rattle.query_tree.specs.Compiled.{BoundTrees}
 use Rattle.query_tree.specs.Inputs.{input_names}
-use Rattle.query_tree.specs.Plain.{PlainClause, PlainClauses, tree_node, flwor_form}
-use Rattle.query_tree.specs.Subtrees.{clauses_subtrees, clause_subtrees}
+use Rattle.query_tree.specs.Plain.{PlainClauses, tree_node, flwor_form}
 use Rattle.query_meaning.specs.Library.{Library, held}
 use Rattle.query_meaning.specs.Environment.{Tuple, Environment}
 use Rattle.query_meaning.specs.Calls.{Program}

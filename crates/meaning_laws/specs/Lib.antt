@@ -2,3 +2,4 @@ pub mod Agreement
 pub mod Laws
 pub mod Beside
 pub mod Widths
+pub mod Accepted

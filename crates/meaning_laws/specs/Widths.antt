@@ -1,5 +1,5 @@
 -- The width of frames makes no difference to a compiled query, where it is great enough.
-use Rattle.std.specs.Prelude.{◌≡◌, ℕ, ◌≤◌, true, List, length}
+use Rattle.std.specs.Prelude.{◌≡◌, ℕ, ◌≤◌, true, length}
 use Rattle.std.specs.List.{All}
 use Rattle.query_tree.specs.Bound.{BoundTree, is_bound}
 use Rattle.query_tree.specs.Compiled.{BoundTrees, IsFramed}

@@ -2,6 +2,7 @@
 //! nothing when it runs.
 
 ghost use Rattle.query_tree.specs.Compiled.{BoundTrees};
+ghost use Rattle.meaning_laws.specs.Accepted.{AcceptedMeetsNoFiller};
 ghost use Rattle.meaning_laws.specs.Beside.{ExpressionsStand, NamesBesideSuffice};
 ghost use Rattle.meaning_laws.specs.Laws.{EvalFindsCalls, EvalReadsNames, LeavesReadNames, FlworsFindCalls, QueriesReadNames, LibrariesAgree};
 ghost use Rattle.meaning_laws.specs.Widths.{WiderFramesMeanTheSame};
@@ -61,4 +62,12 @@ pub fn names_beside_suffice()
 /// comes to the same, and so do its declared variables, and each expression that is bound over them.
 pub fn wider_frames_mean_the_same()
     ensures { WiderFramesMeanTheSame }
+{}
+
+/// What is bound in a scope comes to the same wherever all that may be used there is the same. So a
+/// query that is accepted never meets what its meaning says of a slot that nothing has bound, of `$$`
+/// where it stands for nothing, of a variable or a function that is not there, and of a cast to a type
+/// that no cast may have.
+pub fn accepted_meets_no_filler()
+    ensures { AcceptedMeetsNoFiller }
 {}
