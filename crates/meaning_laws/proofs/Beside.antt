@@ -105,7 +105,7 @@ all_beside ds (t ∷ ts) h =
 
 -- ---- clauses
 
-clauses_joined : (cs ds : List (PlainClause Slot Target SeqType)) → clauses_subtrees (p.clauses_of Slot Target SeqType (cs ++ ds)) ≡ clauses_subtrees (p.clauses_of Slot Target SeqType cs) ++ clauses_subtrees (p.clauses_of Slot Target SeqType ds)
+pub clauses_joined : (cs ds : List (PlainClause Slot Target SeqType)) → clauses_subtrees (p.clauses_of Slot Target SeqType (cs ++ ds)) ≡ clauses_subtrees (p.clauses_of Slot Target SeqType cs) ++ clauses_subtrees (p.clauses_of Slot Target SeqType ds)
 clauses_joined [] ds = refl
 clauses_joined (c ∷ cs) ds = ap (λ ts. clause_subtrees c ++ ts) (clauses_joined cs ds)
     ∙ sym (append_assoc (clause_subtrees c) (clauses_subtrees (p.clauses_of Slot Target SeqType cs)) (clauses_subtrees (p.clauses_of Slot Target SeqType ds)))

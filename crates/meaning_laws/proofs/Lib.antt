@@ -15,3 +15,5 @@ mod SightParts
 mod SightClauses
 pub mod Widths
 pub mod Accepted
+mod Counting
+pub mod Once

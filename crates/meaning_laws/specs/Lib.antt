@@ -3,3 +3,4 @@ pub mod Laws
 pub mod Beside
 pub mod Widths
 pub mod Accepted
+pub mod Once

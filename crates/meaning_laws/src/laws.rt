@@ -5,6 +5,7 @@ ghost use Rattle.query_tree.specs.Compiled.{BoundTrees};
 ghost use Rattle.meaning_laws.specs.Accepted.{AcceptedMeetsNoFiller};
 ghost use Rattle.meaning_laws.specs.Beside.{ExpressionsStand, NamesBesideSuffice};
 ghost use Rattle.meaning_laws.specs.Laws.{EvalFindsCalls, EvalReadsNames, LeavesReadNames, FlworsFindCalls, QueriesReadNames, LibrariesAgree};
+ghost use Rattle.meaning_laws.specs.Once.{DriversStandOnce};
 ghost use Rattle.meaning_laws.specs.Widths.{WiderFramesMeanTheSame};
 
 /// An expression comes to the same in two environments and programs in which all that it reads is the
@@ -57,6 +58,15 @@ pub fn expressions_stand()
 pub fn names_beside_suffice()
     ensures { NamesBesideSuffice }
 {}
+
+/// Where a query has as many calls that drivers of its plan are as it has drivers, its declarations and
+/// the handlers in its spine stand beside the drivers, and so does all in its leaves but their drivers.
+pub fn drivers_stand_once()
+    ensures { DriversStandOnce }
+{
+    mode_planner::laws::expressions_stand_once();
+    mode_planner::laws::drivers_stand_first();
+}
 
 /// Frames that are wide enough for a compiled query do equally well, however much wider they are: it
 /// comes to the same, and so do its declared variables, and each expression that is bound over them.
