@@ -157,12 +157,12 @@ module _ (ds : List DriverPlan) (m : BoundTrees) (library other : Library) (agre
   both_calls width t f h = same_calls (program_of width m library) (program_of width m other) t (λ e. both_functions width f) (agree_on t h)
 
   -- some clauses of a FLWOR that stands in the query
-  part_held : (place : ℕ) (before part after : List (PlainClause Slot Target SeqType)) (result : BoundTree) → StandsIn m (flwor_of place (before ++ part ++ after) result) → is_beside ds (flwor_of place part result) ≡ true → Held P (flwor_of place part result)
-  part_held place before part after result s h =
+  part_held : (place at : ℕ) (before part after : List (PlainClause Slot Target SeqType)) (result : BoundTree) → StandsIn m (flwor_of place at (before ++ part ++ after) result) → is_beside ds (flwor_of place at part result) ≡ true → Held P (flwor_of place at part result)
+  part_held place at before part after result s h =
       let of = λ (cs : List (PlainClause Slot Target SeqType)). clauses_subtrees (p.clauses_of Slot Target SeqType cs) in
       let b = beside_of ds in
       let joined : of (before ++ part ++ after) ≡ of before ++ of part ++ of after = clauses_joined (before ++ part) after ∙ ap (λ ts. ts ++ of after) (clauses_joined before part) in
-      let whole = standing (flwor_of place (before ++ part ++ after) result) s in
+      let whole = standing (flwor_of place at (before ++ part ++ after) result) s in
       let split =
       flat_map-append b (of (before ++ part ++ after)) (subtrees result)
       ∙ ap (λ ns. ns ++ flat_map b (subtrees result))
@@ -170,8 +170,8 @@ module _ (ds : List DriverPlan) (m : BoundTrees) (library other : Library) (agre
       let parts = both_parts P (flat_map b (of before) ++ flat_map b (of part) ++ flat_map b (of after)) (flat_map b (subtrees result)) (subst (AllByRecursion P) split whole) in
       let front = both_parts P (flat_map b (of before) ++ flat_map b (of part)) (flat_map b (of after)) parts.0 in
       let middle = (both_parts P (flat_map b (of before)) (flat_map b (of part)) front.0).1 in
-      let own : AllByRecursion P (flat_map b (subtrees (flwor_of place part result))) = subst (AllByRecursion P) (sym (flat_map-append b (of part) (subtrees result))) (of_joined P (flat_map b (of part)) (flat_map b (subtrees result)) middle parts.1) in
-      subst (AllByRecursion P) (all_beside ds (subtrees (flwor_of place part result)) h) own
+      let own : AllByRecursion P (flat_map b (subtrees (flwor_of place at part result))) = subst (AllByRecursion P) (sym (flat_map-append b (of part) (subtrees result))) (of_joined P (flat_map b (of part)) (flat_map b (subtrees result)) middle parts.1) in
+      subst (AllByRecursion P) (all_beside ds (subtrees (flwor_of place at part result)) h) own
 
   pub beside_same : BesideTheSame ds m library other
   beside_same = record {
@@ -186,8 +186,8 @@ module _ (ds : List DriverPlan) (m : BoundTrees) (library other : Library) (agre
         let two = program_of width m other in
         globals-same one two m.variables [] (one_width width m).variables
         (of_each (InValue (Held P)) (λ x. CallsTheSame x.value one two) (λ x v. both_calls width x.value f v) m.variables (values_held m.variables stands h));
-    clauses = λ width place before part after result f s h.
-        both_calls width (flwor_of place part result) f (part_held place before part after result s h);
+    clauses = λ width place at before part after result f s h.
+        both_calls width (flwor_of place at part result) f (part_held place at before part after result s h);
   }
 
 pub names_beside_suffice : NamesBesideSuffice

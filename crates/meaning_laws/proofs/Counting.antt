@@ -123,15 +123,15 @@ module _ (ds : List DriverPlan) where
       let inside = count_both (clauses_subtrees cs) (subtrees result) in
       omega (arith, own, inside)
 
-  flwor_alone : (place : ℕ) (cs : PlainClauses Slot Target SeqType) (result : BoundTree) (d : DriverPlan) → drives ds d ≡ true → (has : HasDriver cs d) → driven_calls ds (subtrees (p.tree_node place (p.flwor_form cs place result))) ≡ 1 → (is_beside ds (flwor_of place has.before result) ≡ true) × (is_beside ds (flwor_of place has.after result) ≡ true)
-  flwor_alone place cs result d h has one =
+  flwor_alone : (place at : ℕ) (cs : PlainClauses Slot Target SeqType) (result : BoundTree) (d : DriverPlan) → drives ds d ≡ true → (has : HasDriver cs d) → driven_calls ds (subtrees (p.tree_node place (p.flwor_form cs at result))) ≡ 1 → (is_beside ds (flwor_of place at has.before result) ≡ true) × (is_beside ds (flwor_of place at has.after result) ≡ true)
+  flwor_alone place at cs result d h has one =
       let e = parts cs d h has in
-      let whole = flwor_counts place place cs result in
-      let f = flwor_counts place place (clauses has.before) result in
-      let l = flwor_counts place place (clauses has.after) result in
-      let first : driven_calls ds (subtrees (flwor_of place has.before result)) ≡ 0 = omega (arith, e.parted, whole, f, one) in
-      let last : driven_calls ds (subtrees (flwor_of place has.after result)) ≡ 0 = omega (arith, e.parted, whole, l, one) in
-      (none_beside (flwor_of place has.before result) first, none_beside (flwor_of place has.after result) last)
+      let whole = flwor_counts place at cs result in
+      let f = flwor_counts place at (clauses has.before) result in
+      let l = flwor_counts place at (clauses has.after) result in
+      let first : driven_calls ds (subtrees (flwor_of place at has.before result)) ≡ 0 = omega (arith, e.parted, whole, f, one) in
+      let last : driven_calls ds (subtrees (flwor_of place at has.after result)) ≡ 0 = omega (arith, e.parted, whole, l, one) in
+      (none_beside (flwor_of place at has.before result) first, none_beside (flwor_of place at has.after result) last)
 
   argument_counts : (place : ℕ) (id : FnId) (t : BoundTree) → driven_calls ds (subtrees (p.tree_node place (p.call_form (Built id) (p.more_trees t p.no_trees)))) ≡ driven_calls ds (subtrees t)
   argument_counts place id t =

@@ -17,3 +17,4 @@ pub mod Widths
 pub mod Accepted
 mod Counting
 pub mod Once
+pub mod Planned

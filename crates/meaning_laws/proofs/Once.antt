@@ -158,7 +158,7 @@ plan_tree (p.tree_node place (p.flwor_form cs at result)) =
     own_tree t place label.Flwor (driven Items t)
 plan_tree (p.tree_node place _) = refl
 
-leaf_tree : (local : Bool) (t : BoundTree) → (leaf_plan local t).tree ≡ t
+pub leaf_tree : (local : Bool) (t : BoundTree) → (leaf_plan local t).tree ≡ t
 leaf_tree true t = plan_tree t
 leaf_tree false t = plan_tree t
 
@@ -166,7 +166,7 @@ of_plans : (ds : List DriverPlan) (local : Bool) (ts : List BoundTree) → AllBy
 of_plans ds local [] h = tt
 of_plans ds local (t ∷ ts) h = (ap (λ u. driven_calls ds (subtrees u)) (leaf_tree local t) ∙ h.0, of_plans ds local ts h.1)
 
-one_or_none : (S : DriverPlan → Type 0) (c : Option DriverPlan) (cs : List DriverPlan) → AllByRecursion S (cons_option c cs) → IfSome c S × AllByRecursion S cs
+pub one_or_none : (S : DriverPlan → Type 0) (c : Option DriverPlan) (cs : List DriverPlan) → AllByRecursion S (cons_option c cs) → IfSome c S × AllByRecursion S cs
 one_or_none S None cs h = (tt, h)
 one_or_none S (Some c) cs h = (h.0, h.1)
 

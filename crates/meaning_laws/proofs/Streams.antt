@@ -91,16 +91,16 @@ module _ (program beside : Program) (depth : ℕ) (env : Environment) where
       (clause_value (eval program depth) number stream c env ts) (clause_value (eval beside depth) number stream c env ts) (clause-same number stream c ts ws.0) (λ next. taken-same clause (number + 1) (with_slots stream c) cs next ws.1))
 
 -- what the trees of a FLWOR find
-flwor-finds : (program beside : Program) (place : ℕ) (cs : PlainClauses Slot Target SeqType) (result : BoundTree) → CallsTheSame (p.tree_node place (p.flwor_form cs place result)) program beside → Within (Finds Anything program beside) (clauses_subtrees cs ++ subtrees result)
-flwor-finds program beside place cs result h =
+flwor-finds : (program beside : Program) (place at : ℕ) (cs : PlainClauses Slot Target SeqType) (result : BoundTree) → CallsTheSame (p.tree_node place (p.flwor_form cs at result)) program beside → Within (Finds Anything program beside) (clauses_subtrees cs ++ subtrees result)
+flwor-finds program beside place at cs result h =
     with_anything program beside (clauses_subtrees cs ++ subtrees result)
-    (recursion_from_All (λ c. SameForCall program beside c.name) (calls (p.tree_node place (p.flwor_form cs place result))) h)
+    (recursion_from_All (λ c. SameForCall program beside c.name) (calls (p.tree_node place (p.flwor_form cs at result))) h)
 
 pub flwors_find : FlworsFindCalls
 flwors_find = record {
-  items = λ program beside depth number place stream cs result env ts h.
-      items-same program beside depth env number stream cs result ts (flwor-finds program beside place cs result h);
-  taken = λ program beside depth number place stream cs result env clause ts h.
-      let ws = halves (Finds Anything program beside) (clauses_subtrees cs) (subtrees result) (flwor-finds program beside place cs result h) in
+  items = λ program beside depth number place at stream cs result env ts h.
+      items-same program beside depth env number stream cs result ts (flwor-finds program beside place at cs result h);
+  taken = λ program beside depth number place at stream cs result env clause ts h.
+      let ws = halves (Finds Anything program beside) (clauses_subtrees cs) (subtrees result) (flwor-finds program beside place at cs result h) in
       taken-same program beside depth env clause number stream cs ts ws.0;
 }

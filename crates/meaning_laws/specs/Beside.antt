@@ -54,10 +54,11 @@ variables_beside ds xs = list_all (λ x. is_beside ds x.value) xs
 abbrev pub functions_beside : List DriverPlan → List (PlainFunction Slot Target SeqType) → Bool
 functions_beside ds fs = list_all (λ f. is_beside ds f.body) fs
 
--- a FLWOR of these clauses
-abbrev pub flwor_of : ℕ → List (PlainClause Slot Target SeqType) → BoundTree → BoundTree
-flwor_of place cs result =
-    p.tree_node place (p.flwor_form (p.clauses_of Slot Target SeqType cs) place result)
+-- a FLWOR of these clauses, at its place and that of `return`
+abbrev pub flwor_of : ℕ → ℕ → List (PlainClause Slot Target SeqType) → BoundTree
+    → BoundTree
+flwor_of place at cs result =
+    p.tree_node place (p.flwor_form (p.clauses_of Slot Target SeqType cs) at result)
 
 -- Where two libraries agree on the names that are read beside the drivers of a plan, and no driver
 -- is a call in a declared function, each expression that is beside the drivers comes to the same.
@@ -77,11 +78,11 @@ pub record BesideTheSame (ds : List DriverPlan) (m : BoundTrees) (library other 
       → variables_beside ds m.variables ≡ true
       → globals_value width m library ≡ globals_value width m other
   -- of some clauses of a FLWOR, and of its `return`
-  pub clauses : (width place : ℕ) (before part after : List (PlainClause Slot Target SeqType))
+  pub clauses : (width place at : ℕ) (before part after : List (PlainClause Slot Target SeqType))
       (result : BoundTree) → functions_beside ds m.functions ≡ true
-      → StandsIn m (flwor_of place (before ++ part ++ after) result)
-      → is_beside ds (flwor_of place part result) ≡ true
-      → CallsTheSame (flwor_of place part result) (program_of width m library)
+      → StandsIn m (flwor_of place at (before ++ part ++ after) result)
+      → is_beside ds (flwor_of place at part result) ≡ true
+      → CallsTheSame (flwor_of place at part result) (program_of width m library)
       (program_of width m other)
 
 -- Leaving out the inputs that only drivers read changes nothing but at the drivers.

@@ -57,16 +57,16 @@ pub record LeavesReadNames : Type 0 where
 -- What the clauses of a FLWOR come to, from any one on, and the tuples that each of them takes in,
 -- are the same in two programs in which the calls in these clauses and in `return` find the same.
 pub record FlworsFindCalls : Type 0 where
-  pub items : (program beside : Program) (depth number place : ℕ) (stream : List Slot)
+  pub items : (program beside : Program) (depth number place at : ℕ) (stream : List Slot)
       (clauses : PlainClauses Slot Target SeqType) (result : BoundTree) (env : Environment)
       (tuples : List Tuple)
-      → CallsTheSame (tree_node place (flwor_form clauses place result)) program beside
+      → CallsTheSame (tree_node place (flwor_form clauses at result)) program beside
       → flwor_from (eval program depth) number stream clauses result env tuples
       ≡ flwor_from (eval beside depth) number stream clauses result env tuples
-  pub taken : (program beside : Program) (depth number place : ℕ) (stream : List Slot)
+  pub taken : (program beside : Program) (depth number place at : ℕ) (stream : List Slot)
       (clauses : PlainClauses Slot Target SeqType) (result : BoundTree) (env : Environment)
       (clause : ℕ) (tuples : List Tuple)
-      → CallsTheSame (tree_node place (flwor_form clauses place result)) program beside
+      → CallsTheSame (tree_node place (flwor_form clauses at result)) program beside
       → taken_in (eval program depth) number stream clauses env clause tuples
       ≡ taken_in (eval beside depth) number stream clauses env clause tuples
 

@@ -4,3 +4,4 @@ pub mod Beside
 pub mod Widths
 pub mod Accepted
 pub mod Once
+pub mod Planned

@@ -51,11 +51,11 @@ pub record DriversAreAlone (ds : List DriverPlan) : Type 0 where
   -- all, where it has none
   pub none : (t : BoundTree) → driven_calls ds (subtrees t) ≡ 0 → is_beside ds t ≡ true
   -- in a FLWOR that is driven, the clauses before and after the driver, and `return`
-  pub flwor : (place : ℕ) (clauses : PlainClauses Slot Target SeqType) (result : BoundTree)
+  pub flwor : (place at : ℕ) (clauses : PlainClauses Slot Target SeqType) (result : BoundTree)
       (d : DriverPlan) → drives ds d ≡ true → (has : HasDriver clauses d)
-      → driven_calls ds (subtrees (p.tree_node place (p.flwor_form clauses place result))) ≡ 1
-      → (is_beside ds (flwor_of place has.before result) ≡ true)
-      × (is_beside ds (flwor_of place has.after result) ≡ true)
+      → driven_calls ds (subtrees (p.tree_node place (p.flwor_form clauses at result))) ≡ 1
+      → (is_beside ds (flwor_of place at has.before result) ≡ true)
+      × (is_beside ds (flwor_of place at has.after result) ≡ true)
   -- a function of the language that is called is no driver, but its argument may have one
   pub argument : (place : ℕ) (id : FnId) (t : BoundTree)
       → driven_calls ds (subtrees

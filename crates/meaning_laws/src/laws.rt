@@ -6,6 +6,7 @@ ghost use Rattle.meaning_laws.specs.Accepted.{AcceptedMeetsNoFiller};
 ghost use Rattle.meaning_laws.specs.Beside.{ExpressionsStand, NamesBesideSuffice};
 ghost use Rattle.meaning_laws.specs.Laws.{EvalFindsCalls, EvalReadsNames, LeavesReadNames, FlworsFindCalls, QueriesReadNames, LibrariesAgree};
 ghost use Rattle.meaning_laws.specs.Once.{DriversStandOnce};
+ghost use Rattle.meaning_laws.specs.Planned.{PlansReadBeside};
 ghost use Rattle.meaning_laws.specs.Widths.{WiderFramesMeanTheSame};
 
 /// An expression comes to the same in two environments and programs in which all that it reads is the
@@ -63,6 +64,17 @@ pub fn names_beside_suffice()
 /// the handlers in its spine stand beside the drivers, and so does all in its leaves but their drivers.
 pub fn drivers_stand_once()
     ensures { DriversStandOnce }
+{
+    mode_planner::laws::expressions_stand_once();
+    mode_planner::laws::drivers_stand_first();
+}
+
+/// A run by a plan in which each driver stands once needs of its library the names beside the drivers:
+/// over libraries that agree on these, the declared variables have the same values, and all calls find
+/// the same in the leaves without a driver, in the handlers of the spine, and in the clauses of a leaf
+/// before and after its driver.
+pub fn plans_read_beside()
+    ensures { PlansReadBeside }
 {
     mode_planner::laws::expressions_stand_once();
     mode_planner::laws::drivers_stand_first();
