@@ -8,7 +8,8 @@ use Rattle.item_reader.specs.Reading.{Read}
 use Rattle.outside.specs.World.{World}
 use Rattle.query_meaning.specs.Library.{Library, held}
 use Rattle.query_meaning.specs.inside.Computed.{read_of, inputs_of}
-use Rattle.meaning_laws.specs.Agreement.{AgreeOn, is_among, only}
+use Rattle.mode_planner.specs.Laws.{is_among}
+use Rattle.meaning_laws.specs.Agreement.{AgreeOn, only}
 use Rattle.meaning_laws.proofs.Calling.{of_each, Agree}
 
 entry_found : (name : List ℕ) (entry : List ℕ × Option Read) (names : List (List ℕ)) (all kept : Library) → is_among names name ≡ true → held all name ≡ held kept name

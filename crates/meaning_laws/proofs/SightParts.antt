@@ -1,5 +1,5 @@
--- What the parts of an expression come to where all that may be used in their scopes is the same: all
--- kinds but FLWORs.
+-- What the parts of an expression come to where all that may be used in their scopes is the same:
+-- all kinds but FLWORs.
 use mathlib.Core.Path.{fun_ext}
 use Rattle.std.proofs.Common.{◌≡◌, ℕ, true, ◌&&◌, if◌then◌else◌, List, [], ◌∷◌, slice_get, Option, Some, Ok, Err, refl, ap, ap₂, ◌∙◌}
 use Rattle.std.proofs.lemmas.Bool.{and_parts}

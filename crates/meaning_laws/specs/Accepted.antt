@@ -1,6 +1,7 @@
--- What a query that is accepted cannot miss. Where an expression is bound, all that it uses is there:
--- what the meaning says of a slot that nothing has bound, of `$$` where it stands for nothing, of a
--- declared variable or function that is not there, and of a cast to another type, is never met.
+-- What a query that is accepted cannot miss. Where an expression is bound, all that it uses is
+-- there: what the meaning says of a slot that nothing has bound, of `$$` where it stands for
+-- nothing, of a declared variable or function that is not there, and of a cast to another type, is
+-- never met.
 use Rattle.std.specs.Prelude.{◌≡◌, ℕ, nat_lt, true, false, List, [], ◌++◌, length, slice_get, Some}
 use Rattle.item_tree.specs.Datum.{Datum}
 use Rattle.seq_types.specs.declared.types.SeqType.{SeqType}
@@ -23,8 +24,8 @@ use Rattle.query_meaning.specs.Queries.{program_of, query_value}
 
 -- ---- what a scope lets an expression use
 
--- All that may be used in a scope is the same: the slots that are bound, the declared variables that
--- may be read, and `$$` where it stands for an item. All else may be anything.
+-- All that may be used in a scope is the same: the slots that are bound, the declared variables
+-- that may be read, and `$$` where it stands for an item. All else may be anything.
 pub record SameInScope (s : Scope) (env other : Environment) : Type 0 where
   pub width : length env.frame ≡ length other.frame
   pub locals : (n : ℕ) → has_local s.locals n ≡ true

@@ -1,9 +1,8 @@
--- What an expression finds in an environment and in a program, and where it finds the same in two. A
--- call of `json-lines` looks for the inputs that it names; one of a declared function for all
+-- What an expression finds in an environment and in a program, and where it finds the same in two.
+-- A call of `json-lines` looks for the inputs that it names; one of a declared function for all
 -- functions, and for all that their bodies look for; one of a function of the language for nothing.
 use Rattle.std.specs.Prelude.{◌≡◌, ℕ, ◌<◌, Bool, true, false, List, length, filter}
 use Rattle.std.specs.List.{All, flat_map, list_any}
-use Rattle.std.specs.Str.{bytes_eq}
 use Rattle.seq_types.specs.declared.types.SeqType.{SeqType}
 use Rattle.query_tree.specs.declared.bound.Slot.{Slot}
 use Rattle.query_tree.specs.declared.bound.Slot.TheVariants.{Local}
@@ -13,6 +12,7 @@ use Rattle.query_tree.specs.Bound.{BoundTree}
 use Rattle.query_tree.specs.Calls.{calls}
 use Rattle.query_tree.specs.Inputs.{all_names}
 use Rattle.query_tree.specs.Modules.{PlainFunction}
+use Rattle.mode_planner.specs.Laws.{is_among}
 use Rattle.query_meaning.specs.Environment.{Environment}
 use Rattle.query_meaning.specs.Library.{Library, held}
 use Rattle.query_meaning.specs.Calls.{Program}
@@ -79,9 +79,6 @@ abbrev pub calls_declared : BoundTree → Bool
 calls_declared t = list_any (λ c. is_declared c.name) (calls t)
 
 -- ---- libraries
-
-abbrev pub is_among : List (List ℕ) → List ℕ → Bool
-is_among names name = list_any (λ n. bytes_eq n name) names
 
 -- a library from which all names but these are missing
 abbrev pub only : List (List ℕ) → Library → Library

@@ -1,5 +1,5 @@
--- Where the expressions of a query stand, and that those in which no call is a driver of a plan come
--- to the same where the inputs that only drivers read are left out.
+-- Where the expressions of a query stand, and that those in which no call is a driver of a plan
+-- come to the same where the inputs that only drivers read are left out.
 use Rattle.std.specs.Prelude.{◌≡◌, ℕ, Bool, true, not, List, ◌++◌}
 use Rattle.std.specs.List.{All, filter_map, flat_map, list_all, list_any}
 use Rattle.seq_types.specs.declared.types.SeqType.{SeqType}

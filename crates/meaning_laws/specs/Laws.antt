@@ -1,7 +1,7 @@
 -- Laws of what an expression looks for: the meaning of an expression, of clauses and of a query is
 -- the same wherever all that they look for is the same.
 use Rattle.std.specs.Prelude.{◌≡◌, ℕ, true, false, List, None}
-use Rattle.std.specs.List.{All}
+use Rattle.std.specs.List.{All, AllZip}
 use Rattle.outside.specs.World.{World}
 use Rattle.seq_types.specs.declared.types.SeqType.{SeqType}
 use Rattle.query_tree.specs.declared.bound.Slot.{Slot}
@@ -11,7 +11,7 @@ use Rattle.query_tree.specs.Compiled.{BoundTrees}
 use Rattle.query_tree.specs.Inputs.{input_names}
 use Rattle.query_tree.specs.Plain.{PlainClauses, tree_node, flwor_form}
 use Rattle.query_meaning.specs.Library.{Library, held}
-use Rattle.query_meaning.specs.Environment.{Tuple, Environment}
+use Rattle.query_meaning.specs.Environment.{Tuple, Environment, in_tuple}
 use Rattle.query_meaning.specs.Calls.{Program}
 use Rattle.query_meaning.specs.Flwors.{flwor_from}
 use Rattle.query_meaning.specs.Meaning.{eval}
@@ -19,13 +19,15 @@ use Rattle.query_meaning.specs.Sources.{FindsTheSame}
 use Rattle.query_meaning.specs.Queries.{program_of, globals_value, query_value}
 use Rattle.query_meaning.specs.Pieces.{taken_in}
 use Rattle.query_meaning.specs.inside.Computed.{read_of, inputs_of}
-use Rattle.meaning_laws.specs.Agreement.{ReadsTheSame, names_called, names_in_bodies, AgreeOn, SameFunctions, CallsTheSame, calls_declared, is_among, only}
+use Rattle.mode_planner.specs.Laws.{is_among}
+use Rattle.meaning_laws.specs.Agreement.{ReadsTheSame, names_called, names_in_bodies, AgreeOn, SameFunctions, CallsTheSame, calls_declared, only}
 
 -- ---- expressions
 
--- What an expression comes to depends on what it reads in its environment and on what its calls find
--- in the program, and on nothing else there: on the inputs that calls of `json-lines` name, and
--- where it calls a declared function, on all functions and on the inputs that their bodies name.
+-- What an expression comes to depends on what it reads in its environment and on what its calls
+-- find in the program, and on nothing else there: on the inputs that calls of `json-lines` name,
+-- and where it calls a declared function, on all functions and on the inputs that their bodies
+-- name.
 abbrev pub EvalFindsCalls : Type 0
 EvalFindsCalls = (program beside : Program) (depth : ℕ) (t : BoundTree) (env other : Environment)
     → CallsTheSame t program beside → ReadsTheSame t env other
@@ -63,6 +65,16 @@ pub record FlworsFindCalls : Type 0 where
       → CallsTheSame (tree_node place (flwor_form clauses at result)) program beside
       → flwor_from (eval program depth) number stream clauses result env tuples
       ≡ flwor_from (eval beside depth) number stream clauses result env tuples
+  -- and so where environments and tuples differ, but not in what these clauses and `return` read
+  pub reads : (program beside : Program) (depth number place at : ℕ) (stream : List Slot)
+      (clauses : PlainClauses Slot Target SeqType) (result : BoundTree) (env other : Environment)
+      (tuples others : List Tuple)
+      → CallsTheSame (tree_node place (flwor_form clauses at result)) program beside
+      → ReadsTheSame (tree_node place (flwor_form clauses at result)) env other
+      → AllZip (λ t u. ReadsTheSame (tree_node place (flwor_form clauses at result))
+      (in_tuple env t) (in_tuple other u)) tuples others
+      → flwor_from (eval program depth) number stream clauses result env tuples
+      ≡ flwor_from (eval beside depth) number stream clauses result other others
   pub taken : (program beside : Program) (depth number place at : ℕ) (stream : List Slot)
       (clauses : PlainClauses Slot Target SeqType) (result : BoundTree) (env : Environment)
       (clause : ℕ) (tuples : List Tuple)

@@ -1,5 +1,5 @@
--- Plans whose drivers stand once. Where a query has as many calls that drivers are as it has drivers,
--- no other call is taken for one, so all else in the query stands beside the drivers.
+-- Plans whose drivers stand once. Where a query has as many calls that drivers are as it has
+-- drivers, no other call is taken for one, so all else in the query stands beside the drivers.
 use Rattle.std.specs.Prelude.{◌≡◌, ℕ, ◌==◌, Bool, true, if◌then◌else◌, Option, None, Some, List, length}
 use Rattle.std.specs.List.{All, sum_by}
 use Rattle.std.specs.Option.{option_to_list}
@@ -37,8 +37,8 @@ stand_once ds m = driven_calls ds (expressions m) == length ds
 abbrev pub own_drivers : LeafPlan → ℕ
 own_drivers l = length (option_to_list l.driver)
 
--- The declarations of a query and the handlers in its spine stand beside the drivers, and a leaf holds
--- no driver but its own.
+-- The declarations of a query and the handlers in its spine stand beside the drivers, and a leaf
+-- holds no driver but its own.
 pub record DriversStandApart (ds : List DriverPlan) (m : BoundTrees) (planned : List LeafPlan)
     : Type 0 where
   pub functions : functions_beside ds m.functions ≡ true

@@ -28,8 +28,8 @@ IsDriven leaf t = (leaf ≡ t)
     ⊎ ((place : ℕ) × (id : FnId)
     × (leaf ≡ p.tree_node place (p.call_form (Built id) (p.more_trees t p.no_trees))))
 
--- In the FLWOR of a leaf that is driven, the calls in the clauses before and after the driver, and in
--- `return`, find the same.
+-- In the FLWOR of a leaf that is driven, the calls in the clauses before and after the driver, and
+-- in `return`, find the same.
 pub record PartsTheSame (program other : Program) (l : LeafPlan) : Type 0 where
   pub parts : (place at : ℕ) (clauses : PlainClauses Slot Target SeqType) (result : BoundTree)
       (d : DriverPlan) → l.driver ≡ Some d

@@ -24,8 +24,8 @@ pub record WidthsMeanTheSame (width : ℕ) (m : BoundTrees) : Type 0 where
       → AgreeOn (names_in_bodies m.functions) library other
       → SameFunctions (program_of wide m library) (program_of wider m other)
 
--- An expression that is bound over frames of a width reads the same in two environments whose frames
--- are at least as wide, where all that it finds is the same.
+-- An expression that is bound over frames of a width reads the same in two environments whose
+-- frames are at least as wide, where all that it finds is the same.
 pub record WiderFramesMeanTheSame : Type 0 where
   pub queries : (width : ℕ) (m : BoundTrees) → IsFramed width m → WidthsMeanTheSame width m
   pub reads : (width : ℕ) (s : Scope) (t : BoundTree) (env other : Environment)

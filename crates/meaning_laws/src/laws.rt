@@ -9,10 +9,10 @@ ghost use Rattle.meaning_laws.specs.Once.{DriversStandOnce};
 ghost use Rattle.meaning_laws.specs.Planned.{PlansReadBeside};
 ghost use Rattle.meaning_laws.specs.Widths.{WiderFramesMeanTheSame};
 
-/// An expression comes to the same in two environments and programs in which all that it reads is the
-/// same, and all that its calls find: the inputs that they name, and at a call of a declared function
-/// all functions and what their bodies name. The frames may be of different widths, where each slot
-/// that is read is in both or in neither.
+/// An expression comes to the same in two environments and programs in which all that it reads is
+/// the same, and all that its calls find: the inputs that they name, and at a call of a declared
+/// function all functions and what their bodies name. The frames may be of different widths, where
+/// each slot that is read is in both or in neither.
 pub fn eval_finds_calls()
     ensures { EvalFindsCalls }
 {}
@@ -60,8 +60,9 @@ pub fn names_beside_suffice()
     ensures { NamesBesideSuffice }
 {}
 
-/// Where a query has as many calls that drivers of its plan are as it has drivers, its declarations and
-/// the handlers in its spine stand beside the drivers, and so does all in its leaves but their drivers.
+/// Where a query has as many calls that drivers of its plan are as it has drivers, its declarations
+/// and the handlers in its spine stand beside the drivers, and so does all in its leaves but their
+/// drivers.
 pub fn drivers_stand_once()
     ensures { DriversStandOnce }
 {
@@ -69,10 +70,10 @@ pub fn drivers_stand_once()
     mode_planner::laws::drivers_stand_first();
 }
 
-/// A run by a plan in which each driver stands once needs of its library the names beside the drivers:
-/// over libraries that agree on these, the declared variables have the same values, and all calls find
-/// the same in the leaves without a driver, in the handlers of the spine, and in the clauses of a leaf
-/// before and after its driver.
+/// A run by a plan in which each driver stands once needs of its library the names beside the
+/// drivers: over libraries that agree on these, the declared variables have the same values, and
+/// all calls find the same in the leaves without a driver, in the handlers of the spine, and in the
+/// clauses of a leaf before and after its driver.
 pub fn plans_read_beside()
     ensures { PlansReadBeside }
 {
@@ -80,16 +81,17 @@ pub fn plans_read_beside()
     mode_planner::laws::drivers_stand_first();
 }
 
-/// Frames that are wide enough for a compiled query do equally well, however much wider they are: it
-/// comes to the same, and so do its declared variables, and each expression that is bound over them.
+/// Frames that are wide enough for a compiled query do equally well, however much wider they are:
+/// it comes to the same, and so do its declared variables, and each expression that is bound over
+/// them.
 pub fn wider_frames_mean_the_same()
     ensures { WiderFramesMeanTheSame }
 {}
 
 /// What is bound in a scope comes to the same wherever all that may be used there is the same. So a
-/// query that is accepted never meets what its meaning says of a slot that nothing has bound, of `$$`
-/// where it stands for nothing, of a variable or a function that is not there, and of a cast to a type
-/// that no cast may have.
+/// query that is accepted never meets what its meaning says of a slot that nothing has bound, of
+/// `$$` where it stands for nothing, of a variable or a function that is not there, and of a cast
+/// to a type that no cast may have.
 pub fn accepted_meets_no_filler()
     ensures { AcceptedMeetsNoFiller }
 {}
