@@ -14,7 +14,7 @@ use Rattle.query_tree.specs.declared.names.Placed.{Placed}
 use Rattle.query_tree.specs.Plain as p
 use Rattle.query_tree.specs.Plain.{PlainClause}
 use Rattle.query_tree.specs.Bound.{BoundTree}
-use Rattle.query_tree.specs.Calls.{own_call, calls}
+use Rattle.query_tree.specs.Calls.{own_call}
 use Rattle.query_tree.specs.Compiled.{BoundTrees}
 use Rattle.query_tree.specs.Inputs.{names_read, all_names}
 use Rattle.query_tree.specs.Modules.{PlainVariable, PlainFunction}
