@@ -6,3 +6,6 @@ mod LoadedFiles
 mod LoadingRules
 mod Steps
 mod Answering
+mod Stepping
+mod Finding
+mod Finishing

@@ -1,26 +1,27 @@
 -- What remains of loading, step by step.
-use Rattle.std.proofs.Common.{◌≡◌, ℕ, ◌+◌, ◌<◌, ◌≤◌, Bool, true, false, ◌||◌, List, [], ◌∷◌, ◌++◌, map, reverse, length, drop, get_or, Result, Ok, Err, refl, sym, ap, ◌∙◌, subst, arith}
+use Rattle.std.proofs.Common.{◌≡◌, ◌⊎◌, inl, inr, ℕ, ◌+◌, ◌<◌, ◌≤◌, Bool, true, false, ◌||◌, List, [], ◌∷◌, ◌++◌, map, reverse, length, drop, get_or, Result, Ok, Err, refl, sym, ap, ◌∙◌, subst, arith}
 use Rattle.std.specs.Str.{bytes_eq}
 use Rattle.std.proofs.lemmas.List.{map-append, reverse-append, length-map, length-reverse, drop_more, drop_all}
+use Rattle.item_tree.specs.declared.code.Code.{Code}
 use Rattle.item_tree.specs.declared.code.Code.TheVariants.{PJST0006, PJST0008}
 use Rattle.module_names.specs.declared.head.Import.{Import}
 use Rattle.module_names.specs.Loading.{Name, Refusal, Sources, Files, has_name, most_files, names_of}
 use Rattle.module_names.specs.Rules.{Takes, none, circle, again, full}
-use Rattle.module_names.specs.Remaining.{UnderWay, path_names, Remains, stops, goes_on, under_way, done_file, refusal_of, Asks}
+use Rattle.module_names.specs.Remaining.{UnderWay, path_names, Remains, stops, goes_on, under_way, done_file, refusal_of, Asks, State, RefusesInnermost}
 use Rattle.module_names.specs.declared.order.File.{File}
 use Rattle.module_names.specs.declared.order.Refused.{Refused}
 use Rattle.module_names.specs.inside.Order.{file_names}
 use Rattle.module_names.proofs.LoadedFiles.{has_more, or_none}
 
-module _ (sources : Sources ℕ) where
+module _ {T : Type 0} (sources : Sources T) where
   -- a file with no import left is done
-  pub file_done : (f : UnderWay) (path : List UnderWay) (done : Files ℕ) (end_ : Result (Files ℕ) Refusal) → f.left ≡ []
+  pub file_done : (f : UnderWay T) (path : List (UnderWay T)) (done : Files T) (end_ : Result (Files T) Refusal) → f.left ≡ []
       → Remains sources path (done ++ (f.name, f.source) ∷ []) end_ → Remains sources (f ∷ path) done end_
   file_done f path done end_ h m =
       goes_on f path done done end_ (subst (λ (is : List Import). Takes sources f.name (path_names path) is done (Ok done)) (sym h) (none f.name (path_names path) done)) m
 
   -- an import of a file that is done is passed over
-  pub import_again : (f : UnderWay) (i : Import) (is : List Import) (path : List UnderWay) (done : Files ℕ) (end_ : Result (Files ℕ) Refusal)
+  pub import_again : (f : UnderWay T) (i : Import) (is : List Import) (path : List (UnderWay T)) (done : Files T) (end_ : Result (Files T) Refusal)
       → f.left ≡ i ∷ is → has_name i.name (f.name ∷ path_names path) ≡ false → has_name i.name (names_of done) ≡ true
       → Remains sources (record f { left = is } ∷ path) done end_ → Remains sources (f ∷ path) done end_
   import_again f i is path done _ h off there (stops _ _ _ r t) =
@@ -30,7 +31,7 @@ module _ (sources : Sources ℕ) where
       goes_on f path done fs end_
       (subst (λ (ls : List Import). Takes sources f.name (path_names path) ls done (Ok fs)) (sym h) (again f.name (path_names path) i is done (Ok fs) off there t)) m
 
-  pub import_circles : (f : UnderWay) (i : Import) (is : List Import) (path : List UnderWay) (done : Files ℕ) → f.left ≡ i ∷ is
+  pub import_circles : (f : UnderWay T) (i : Import) (is : List Import) (path : List (UnderWay T)) (done : Files T) → f.left ≡ i ∷ is
       → has_name i.name (f.name ∷ path_names path) ≡ true
       → Remains sources (f ∷ path) done (Err (record { file = f.name; code = PJST0006; place = i.place }))
   import_circles f i is path done h on =
@@ -38,7 +39,7 @@ module _ (sources : Sources ℕ) where
       (subst (λ (ls : List Import). Takes sources f.name (path_names path) ls done (Err (record { file = f.name; code = PJST0006; place = i.place }))) (sym h)
       (circle f.name (path_names path) i is done on))
 
-  pub import_overflows : (f : UnderWay) (i : Import) (is : List Import) (path : List UnderWay) (done : Files ℕ) → f.left ≡ i ∷ is
+  pub import_overflows : (f : UnderWay T) (i : Import) (is : List Import) (path : List (UnderWay T)) (done : Files T) → f.left ≡ i ∷ is
       → has_name i.name (f.name ∷ path_names path) ≡ false → has_name i.name (names_of done) ≡ false
       → most_files ≤ length (f.name ∷ path_names path) + length done
       → Remains sources (f ∷ path) done (Err (record { file = f.name; code = PJST0008; place = i.place }))
@@ -49,13 +50,13 @@ module _ (sources : Sources ℕ) where
 
 -- ---- of the code
 
-abbrev pub turned : List File → List UnderWay
+abbrev pub turned : {T : Type 0} → List (File T) → List (UnderWay T)
 turned fs = reverse (map under_way fs)
 
-abbrev pub files_of : List File → Files ℕ
+abbrev pub files_of : {T : Type 0} → List (File T) → Files T
 files_of fs = map done_file fs
 
-pub top_first : (old rest : List File) (file : File) → old ≡ rest ++ file ∷ [] → turned old ≡ under_way file ∷ turned rest
+pub top_first : {T : Type 0} (old rest : List (File T)) (file : File T) → old ≡ rest ++ file ∷ [] → turned old ≡ under_way file ∷ turned rest
 top_first old rest file e =
     ap turned e ∙ ap reverse (map-append under_way rest (file ∷ [])) ∙ reverse-append (map under_way rest) (under_way file ∷ [])
 
@@ -73,63 +74,63 @@ or_turns true false = refl
 or_turns false true = refl
 or_turns false false = refl
 
-turned_names : (n : Name) (rest : List File) → has_name n (path_names (turned rest)) ≡ has_name n (file_names rest)
-turned_names n [] = refl
-turned_names n (f ∷ rest) =
-    ap (λ (us : List UnderWay). has_name n (path_names us)) (reverse-append (under_way f ∷ []) (map under_way rest))
-    ∙ ap (has_name n) (map-append (λ (u : UnderWay). u.name) (turned rest) (under_way f ∷ []))
+turned_names : {T : Type 0} (n : Name) (rest : List (File T)) → has_name n (path_names (turned rest)) ≡ has_name n (file_names rest)
+turned_names {T} n [] = refl
+turned_names {T} n (f ∷ rest) =
+    ap (λ (us : List (UnderWay T)). has_name n (path_names us)) (reverse-append (under_way f ∷ []) (map under_way rest))
+    ∙ ap (has_name n) (map-append (λ (u : UnderWay T). u.name) (turned rest) (under_way f ∷ []))
     ∙ has_more n (path_names (turned rest)) f.name
     ∙ ap (λ (b : Bool). b || bytes_eq n f.name) (turned_names n rest)
     ∙ or_turns (has_name n (file_names rest)) (bytes_eq n f.name)
 
-done_names : (n : Name) (ds : List File) → has_name n (names_of (files_of ds)) ≡ has_name n (file_names ds)
+done_names : {T : Type 0} (n : Name) (ds : List (File T)) → has_name n (names_of (files_of ds)) ≡ has_name n (file_names ds)
 done_names n [] = refl
 done_names n (d ∷ ds) = ap (λ (b : Bool). bytes_eq n d.name || b) (done_names n ds)
 
-path_length : (rest : List File) → length (path_names (turned rest)) ≡ length rest
-path_length rest = length-map (turned rest) (λ (u : UnderWay). u.name) ∙ length-reverse (map under_way rest) ∙ length-map rest under_way
+path_length : {T : Type 0} (rest : List (File T)) → length (path_names (turned rest)) ≡ length rest
+path_length {T} rest = length-map (turned rest) (λ (u : UnderWay T). u.name) ∙ length-reverse (map under_way rest) ∙ length-map rest under_way
 
 -- the next import of a file
-pub record IsNext (old rest : List File) (file : File) (i : Import) : Type 0 where
+pub record IsNext {T : Type 0} (old rest : List (File T)) (file : File T) (i : Import) : Type 0 where
   top : old ≡ rest ++ file ∷ []
   within : file.taken < length file.source.imports.items
   next : i ≡ get_or file.source.imports.items file.taken i
 
-pub is_next : (old rest : List File) (file : File) (i : Import) → old ≡ rest ++ file ∷ [] → file.taken < length file.source.imports.items
+pub is_next : {T : Type 0} (old rest : List (File T)) (file : File T) (i : Import) → old ≡ rest ++ file ∷ [] → file.taken < length file.source.imports.items
     → i ≡ get_or file.source.imports.items file.taken i → IsNext old rest file i
 is_next old rest file i e lt is = record { top = e; within = lt; next = is }
 
-left_is : (old rest : List File) (file : File) (i : Import) → IsNext old rest file i
+left_is : {T : Type 0} (old rest : List (File T)) (file : File T) (i : Import) → IsNext old rest file i
     → (under_way file).left ≡ i ∷ drop (file.taken + 1) file.source.imports.items
 left_is old rest file i n =
     drop_more file.source.imports.items file.taken i n.within
     ∙ ap (λ (j : Import). j ∷ drop (file.taken + 1) file.source.imports.items) (sym n.next)
 
-module _ (sources : Sources ℕ) (old rest ds : List File) (file : File) where
-  pub code_done : (new : List File) (end_ : Result (Files ℕ) Refusal) → old ≡ rest ++ file ∷ [] → length file.source.imports.items ≤ file.taken
+module _ {T : Type 0} (sources : Sources T) (old rest ds : List (File T)) (file : File T) where
+  pub code_done : (new : List (File T)) (end_ : Result (Files T) Refusal) → old ≡ rest ++ file ∷ [] → length file.source.imports.items ≤ file.taken
       → new ≡ ds ++ file ∷ [] → Remains sources (turned rest) (files_of new) end_ → Remains sources (turned old) (files_of ds) end_
   code_done new end_ e le n m =
-      subst (λ (us : List UnderWay). Remains sources us (files_of ds) end_) (sym (top_first old rest file e))
+      subst (λ (us : List (UnderWay T)). Remains sources us (files_of ds) end_) (sym (top_first old rest file e))
       (file_done sources (under_way file) (turned rest) (files_of ds) end_ (drop_all file.taken file.source.imports.items le)
-      (subst (λ (fs : Files ℕ). Remains sources (turned rest) fs end_) (ap files_of n ∙ map-append done_file ds (file ∷ [])) m))
+      (subst (λ (fs : Files T). Remains sources (turned rest) fs end_) (ap files_of n ∙ map-append done_file ds (file ∷ [])) m))
 
-  pub code_again : (i : Import) (next : File) (new : List File) (end_ : Result (Files ℕ) Refusal) → IsNext old rest file i
+  pub code_again : (i : Import) (next : File T) (new : List (File T)) (end_ : Result (Files T) Refusal) → IsNext old rest file i
       → next ≡ record file { taken = file.taken + 1 } → new ≡ rest ++ next ∷ []
       → bytes_eq i.name file.name ≡ false → has_name i.name (file_names rest) ≡ false → has_name i.name (file_names ds) ≡ true
       → Remains sources (turned new) (files_of ds) end_ → Remains sources (turned old) (files_of ds) end_
   code_again i next new end_ n step e own far there m =
-      subst (λ (us : List UnderWay). Remains sources us (files_of ds) end_) (sym (top_first old rest file n.top))
+      subst (λ (us : List (UnderWay T)). Remains sources us (files_of ds) end_) (sym (top_first old rest file n.top))
       (import_again sources (under_way file) i (drop (file.taken + 1) file.source.imports.items) (turned rest) (files_of ds) end_
       (left_is old rest file i n) (or_none (bytes_eq i.name file.name) (has_name i.name (path_names (turned rest))) own (turned_names i.name rest ∙ far))
       (done_names i.name ds ∙ there)
-      (subst (λ (us : List UnderWay). Remains sources us (files_of ds) end_)
-      (top_first new rest next e ∙ ap (λ (f : File). under_way f ∷ turned rest) step) m))
+      (subst (λ (us : List (UnderWay T)). Remains sources us (files_of ds) end_)
+      (top_first new rest next e ∙ ap (λ (f : File T). under_way f ∷ turned rest) step) m))
 
   pub code_circle : (i : Import) (r : Refused) → IsNext old rest file i → r ≡ record { file = file.name; code = PJST0006; place = i.place }
       → (bytes_eq i.name file.name || has_name i.name (file_names rest)) ≡ true
       → Remains sources (turned old) (files_of ds) (Err (refusal_of r))
   code_circle i r n told on =
-      subst (λ (us : List UnderWay). Remains sources us (files_of ds) (Err (refusal_of r))) (sym (top_first old rest file n.top))
+      subst (λ (us : List (UnderWay T)). Remains sources us (files_of ds) (Err (refusal_of r))) (sym (top_first old rest file n.top))
       (subst (λ (q : Refused). Remains sources (under_way file ∷ turned rest) (files_of ds) (Err (refusal_of q))) (sym told)
       (import_circles sources (under_way file) i (drop (file.taken + 1) file.source.imports.items) (turned rest) (files_of ds)
       (left_is old rest file i n) (ap (λ (b : Bool). bytes_eq i.name file.name || b) (turned_names i.name rest) ∙ on)))
@@ -141,18 +142,18 @@ module _ (sources : Sources ℕ) (old rest ds : List File) (file : File) where
   code_full i r n told own far new most =
       let deep : length (path_names (turned rest)) ≡ length rest = path_length rest in
       let wide : length (files_of ds) ≡ length ds = length-map ds done_file in
-      subst (λ (us : List UnderWay). Remains sources us (files_of ds) (Err (refusal_of r))) (sym (top_first old rest file n.top))
+      subst (λ (us : List (UnderWay T)). Remains sources us (files_of ds) (Err (refusal_of r))) (sym (top_first old rest file n.top))
       (subst (λ (q : Refused). Remains sources (under_way file ∷ turned rest) (files_of ds) (Err (refusal_of q))) (sym told)
       (import_overflows sources (under_way file) i (drop (file.taken + 1) file.source.imports.items) (turned rest) (files_of ds)
       (left_is old rest file i n) (or_none (bytes_eq i.name file.name) (has_name i.name (path_names (turned rest))) own (turned_names i.name rest ∙ far))
       (done_names i.name ds ∙ new) (omega arith)))
 
-pub code_asks : (old rest ds : List File) (file : File) (i : Import) (next : File) (new : List File) → IsNext old rest file i
+pub code_asks : {T : Type 0} (old rest ds : List (File T)) (file : File T) (i : Import) (next : File T) (new : List (File T)) → IsNext old rest file i
     → next ≡ record file { taken = file.taken + 1 } → new ≡ rest ++ next ∷ []
     → bytes_eq i.name file.name ≡ false → has_name i.name (file_names rest) ≡ false → has_name i.name (file_names ds) ≡ false
     → length rest + length ds + 1 < 64
     → Asks (record { path = turned old; done = files_of ds }) (record { path = turned new; done = files_of ds }) i
-code_asks old rest ds file i next new n step e own far none_ room =
+code_asks {T} old rest ds file i next new n step e own far none_ room =
     let deep : length (path_names (turned rest)) ≡ length rest = path_length rest in
     let wide : length (files_of ds) ≡ length ds = length-map ds done_file in
     record {
@@ -163,7 +164,7 @@ code_asks old rest ds file i next new n step e own far none_ room =
       before =
           top_first old rest file n.top
           ∙ ap (λ (ls : List Import). record { name = file.name; source = (under_way file).source; left = ls } ∷ turned rest) (left_is old rest file i n);
-      after = top_first new rest next e ∙ ap (λ (f : File). under_way f ∷ turned rest) step;
+      after = top_first new rest next e ∙ ap (λ (f : File T). under_way f ∷ turned rest) step;
       same = refl;
       wanted = record {
         new = record {
@@ -173,3 +174,22 @@ code_asks old rest ds file i next new n step e own far none_ room =
         room = omega arith;
       };
     }
+
+-- the innermost file is refused, and stays where it was
+pub refuses_first : {T : Type 0} (old rest : List (File T)) (file : File T) (r : Refused) (s : State T) → old ≡ rest ++ file ∷ []
+    → (code : Code) (place : ℕ) → r ≡ record { file = file.name; code = code; place = place } → (code ≡ PJST0006) ⊎ (code ≡ PJST0008)
+    → s.path ≡ turned (rest ++ file ∷ []) → RefusesInnermost s r
+refuses_first old rest file r s e code place told one back = record {
+  inner = under_way file;
+  outer = turned rest;
+  path = back ∙ top_first (rest ++ file ∷ []) rest file refl;
+  file = ap (λ (q : Refused). q.file) told;
+  code = by one;
+}
+  where
+    same : r.code ≡ code
+    same = ap (λ (q : Refused). q.code) told
+
+    by : (code ≡ PJST0006) ⊎ (code ≡ PJST0008) → (r.code ≡ PJST0006) ⊎ (r.code ≡ PJST0008)
+    by (inl is) = inl (same ∙ is)
+    by (inr is) = inr (same ∙ is)

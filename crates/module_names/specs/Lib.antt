@@ -4,4 +4,7 @@ pub mod Loading
 pub mod Loaded
 pub mod Rules
 pub mod Remaining
+pub mod Alone
+pub mod Counts
+pub mod Answers
 pub mod inside

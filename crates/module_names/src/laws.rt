@@ -1,5 +1,6 @@
 //! Laws of the definitions. Each is the contract of a function that does nothing.
 
+ghost use Rattle.query_tree.specs.NamedViews.{NamedQuery};
 ghost use Rattle.module_names.specs.Loaded.{FilesStandOnce};
 ghost use Rattle.module_names.specs.Remaining.{AsksAreAnswered};
 ghost use Rattle.module_names.specs.Rules.{RulesSayLoading};
@@ -18,5 +19,5 @@ pub fn rules_say_loading()
 /// What remains once an import was answered is what remained before it; what remains at the start
 /// is what loading comes to, and what remains without a file under way is what is done.
 pub fn asks_are_answered()
-    ensures { AsksAreAnswered }
+    ensures { AsksAreAnswered NamedQuery }
 {}

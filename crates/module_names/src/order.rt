@@ -2,7 +2,7 @@
 
 ghost use Rattle.std.specs.Prelude.{◌≡◌, ◌<◌, ◌+◌, ◌-◌, ◌^◌, ◌∷◌, [], IfOk, OnOk};
 ghost use Rattle.module_names.specs.Loading.{has_name};
-ghost use Rattle.module_names.specs.Remaining.{IsStep, state_of, begun, source_view};
+ghost use Rattle.module_names.specs.Remaining.{IsStep, IsOfInnermost, state_of, files_in, begun, source_view};
 ghost use Rattle.module_names.specs.inside.Order.{file_names, IsRefused};
 
 use crate::Import;
@@ -12,20 +12,20 @@ use std::alloc::Global;
 /// How many files may be loaded, the query counted.
 const MOST_FILES: usize = 64;
 
-/// A file that was read alone: its imports, where its body stands if that is not `()`, and the
-/// number by which its reader knows it.
+/// A file that was read alone: its imports, where its body stands if that is not `()`, and what
+/// else its reader keeps of it.
 #[derive(Debug, Drop)]
-pub struct Source {
+pub struct Source<T> {
     pub imports: Vec<Import>,
     pub body: Option<u32>,
-    pub number: usize,
+    pub rest: T,
 }
 
 /// A file with its name, of whose imports so many were taken.
 #[derive(Debug, Drop)]
-pub struct File {
+pub struct File<T> {
     pub name: Str,
-    pub source: Source,
+    pub source: Source<T>,
     pub taken: usize,
 }
 
@@ -53,29 +53,38 @@ pub enum Step {
 /// A query that is being loaded: the files that are under way, the innermost last, and those that
 /// are done, in order.
 #[derive(Debug, Drop)]
-pub struct Loading {
-    pub path: Vec<File>,
-    pub done: Vec<File>,
+pub struct Loading<T> {
+    pub path: Vec<File<T>>,
+    pub done: Vec<File<T>>,
 }
 
 /// A query that was read, before its first import is taken.
-pub fn start_loading(alloc: Global, name: Str, source: Source) -> Result<Loading, NoMemory>
+pub fn start_loading<T: Drop>(
+    alloc: Global,
+    name: Str,
+    source: Source<T>,
+) -> Result<Loading<T>, NoMemory>
     ensures { IfOk result (λ loading. state_of loading
         ≡ record { path = begun name (source_view source) ∷ []; done = [] }) }
 {
-    let path = vec![in alloc;
-        File {
-            name,
-            source,
-            taken: 0
-        },
-    ]?;
-    let done = Vec::new(alloc);
-    Ok(Loading { path, done })
+    let mut path = Vec::new(alloc);
+    path.push(File {
+        name,
+        source,
+        taken: 0,
+    })?;
+    Ok(Loading {
+        path,
+        done: Vec::new(alloc),
+    })
 }
 
 /// A library that was wanted and read goes under way.
-pub fn add_library(loading: &mut Loading, name: Str, source: Source) -> Result<(), NoMemory>
+pub fn add_library<T: Drop>(
+    loading: &mut Loading<T>,
+    name: Str,
+    source: Source<T>,
+) -> Result<(), NoMemory>
     ensures { OnOk result (state_of loading.new ≡ record {
       path = begun name (source_view source) ∷ (state_of loading.old).path;
       done = (state_of loading.old).done;
@@ -89,9 +98,13 @@ pub fn add_library(loading: &mut Loading, name: Str, source: Source) -> Result<(
     Ok(())
 }
 
-/// Takes the next import of the innermost file, or finishes that file.
-pub fn next_step(loading: &mut Loading) -> Result<Step, NoMemory>
-    ensures { IfOk result (λ s. IsStep (state_of loading.old) (state_of loading.new) s) }
+/// Takes the next import of the innermost file, or finishes that file. Where that file is refused,
+/// it stays the innermost.
+pub fn next_step<T: Drop>(loading: &mut Loading<T>) -> Result<Step, NoMemory>
+    ensures step { IfOk result (λ s. IsStep (state_of loading.old) (state_of loading.new) s) }
+    ensures files { IfOk result (λ s.
+        files_in (state_of loading.new) ≡ files_in (state_of loading.old)) }
+    ensures refused { IfOk result (λ s. IsOfInnermost (state_of loading.new) s) }
 {
     let Some(file) = loading.path.pop() else {
         return Ok(Step::Done);
@@ -102,14 +115,18 @@ pub fn next_step(loading: &mut Loading) -> Result<Step, NoMemory>
     }
     let import = copy_of(&file.source.imports[file.taken])?;
     if import.name == file.name || has_file(&loading.path, &import.name) {
-        return Ok(Step::Refused(refuse(&file, Code::PJST0006, import.place)?));
+        let circle = refuse(&file, Code::PJST0006, import.place)?;
+        loading.path.push(file)?;
+        return Ok(Step::Refused(circle));
     }
     if has_file(&loading.done, &import.name) {
         loading.path.push(after_import(file))?;
         return Ok(Step::Taken);
     }
     if loading.path.len() + loading.done.len() + 1 >= MOST_FILES {
-        return Ok(Step::Refused(refuse(&file, Code::PJST0008, import.place)?));
+        let full = refuse(&file, Code::PJST0008, import.place)?;
+        loading.path.push(file)?;
+        return Ok(Step::Refused(full));
     }
     loading.path.push(after_import(file))?;
     Ok(Step::Wanted(import))
@@ -125,7 +142,7 @@ fn copy_of(import: &Import) -> Result<Import, NoMemory>
     })
 }
 
-fn after_import(file: File) -> File
+fn after_import<T>(file: File<T>) -> File<T>
     requires { file.taken < 2 ^ 64 - 1 }
     ensures { result ≡ record file { taken = file.taken + 1 } }
 {
@@ -141,7 +158,7 @@ fn after_import(file: File) -> File
     }
 }
 
-fn refuse(file: &File, code: Code, place: u32) -> Result<Refused, NoMemory>
+fn refuse<T>(file: &File<T>, code: Code, place: u32) -> Result<Refused, NoMemory>
     ensures { IfOk result (λ r. IsRefused file.now.name code place r) }
 {
     let file = file.name.copy()?;
@@ -149,7 +166,7 @@ fn refuse(file: &File, code: Code, place: u32) -> Result<Refused, NoMemory>
 }
 
 // Whether one of the files has this name.
-fn has_file(files: &[File], name: &Str) -> bool
+fn has_file<T>(files: &[File<T>], name: &Str) -> bool
     ensures { result ≡ has_name name.now (file_names files.now) }
 {
     for file in files {

@@ -5,7 +5,7 @@ use Rattle.module_names.specs.declared.order.File.{File}
 use Rattle.module_names.specs.declared.order.Refused.{Refused}
 use Rattle.module_names.specs.Loading.{Name}
 
-abbrev pub file_names : List File → List Name
+abbrev pub file_names : {T : Type 0} → List (File T) → List Name
 file_names fs = map (λ f. f.name) fs
 
 abbrev pub IsRefused : Name → Code → ℕ → Refused → Type 0

@@ -1,0 +1,46 @@
+use Rattle.std.specs.Fn.{FnReturnsAt}
+use Rattle.module_names.specs.Remaining.{state_of}
+use Rattle.module_names.proofs.Finishing.{query_unread, query_told, query_held, query_opened, found_then}
+use Rattle.module_names.proofs.Stepping.{told_from, told_from_two, unread_counts}
+use Rattle.module_names.proofs.library_loading.load.Goals as goal
+
+pub returns-in_ok-copy-in-Refused-clause-told : goal.returns-in_ok-copy-in-Refused-clause-told
+returns-in_ok-copy-in-Refused-clause-told g c =
+    let found = rw c.in-Refused.is at c.in_ok-read_file.ensures.found in
+    let fault = rw c.in_ok-copy-in-Refused.ensures at c.refused.ensures in
+    told_from (g.I.Inputs.world c.args.inputs.now)
+    (λ w h sources are.
+    query_unread (FnReturnsAt g.F.Fn c.args.read) c.args.name.now w c.refused.result c.in-Refused.code c.in-Refused.place c.in-Refused.contents fault h sources are) found
+
+pub returns-in_ok-copy-in-Refused-clause-counts : goal.returns-in_ok-copy-in-Refused-clause-counts
+returns-in_ok-copy-in-Refused-clause-counts g c =
+    let counts = rw c.in-Refused.is at c.in_ok-read_file.ensures.counts in
+    unread_counts _ (FnReturnsAt g.F.Fn c.args.read) _ c.in-Refused.place _ c.refused.result _ _ c.refused.ensures counts
+
+pub returns-in_ok-loading-in-Read-clause-told : goal.returns-in_ok-loading-in-Read-clause-told
+returns-in_ok-loading-in-Read-clause-told g c =
+    let found = rw c.in-Read.is at c.in_ok-read_file.ensures.found in
+    let begins = rw c.in_ok-copy-in-Read.ensures at c.in_ok-loading-in-Read.ensures in
+    told_from_two (g.I.Inputs.world c.args.inputs.now)
+    (λ w h ends. query_told (FnReturnsAt g.F.Fn c.args.read) c.args.name.now w (state_of c.in_ok-loading-in-Read.loading) c.in-Read.source c.finish.result begins h ends)
+    found (rw c.in_ok-read_file.ensures.world at c.finish.ensures.told)
+
+pub returns-in_ok-loading-in-Read-clause-held : goal.returns-in_ok-loading-in-Read-clause-held
+returns-in_ok-loading-in-Read-clause-held g c =
+    let found = rw c.in-Read.is at c.in_ok-read_file.ensures.found in
+    let begins = rw c.in_ok-copy-in-Read.ensures at c.in_ok-loading-in-Read.ensures in
+    told_from_two (g.I.Inputs.world c.args.inputs.now)
+    (λ w h ends. query_held (FnReturnsAt g.F.Fn c.args.read) c.args.name.now w (state_of c.in_ok-loading-in-Read.loading) c.in-Read.source c.finish.result begins h ends)
+    found (rw c.in_ok-read_file.ensures.world at c.finish.ensures.held)
+
+pub returns-in_ok-loading-in-Read-clause-counts : goal.returns-in_ok-loading-in-Read-clause-counts
+returns-in_ok-loading-in-Read-clause-counts g c =
+    let counts = rw c.in-Read.is at c.in_ok-read_file.ensures.counts in
+    found_then (FnReturnsAt g.F.Fn c.args.read) c.in-Read.source c.finish.result _ _ _ counts c.finish.ensures.counts
+
+pub returns-in_ok-loading-in-Read-clause-opened : goal.returns-in_ok-loading-in-Read-clause-opened
+returns-in_ok-loading-in-Read-clause-opened g c =
+    let counts = rw c.in-Read.is at c.in_ok-read_file.ensures.counts in
+    let begins = rw c.in_ok-copy-in-Read.ensures at c.in_ok-loading-in-Read.ensures in
+    query_opened (FnReturnsAt g.F.Fn c.args.read) c.args.name.now (state_of c.in_ok-loading-in-Read.loading) c.in-Read.source c.finish.result _ _ _
+    begins counts.opened c.finish.ensures.counts.falls c.finish.ensures.opened

@@ -1,0 +1,33 @@
+//! Reading whole files by their names.
+
+ghost use Rattle.std.specs.Prelude.{◌≡◌, IfOk, IfSome, option_map};
+ghost use Rattle.std.specs.Str.{chars};
+ghost use Rattle.outside.specs.World.{file_of};
+ghost use Rattle.module_names.specs.Counts.{LeavesRead};
+
+use line_pieces::{PieceFault, read_whole};
+use outside::{Inputs, OpenFault};
+use std::alloc::Global;
+
+/// All bytes of the file of this name, where there is one. The file is closed again.
+pub fn read_named<I: Inputs>(
+    alloc: Global,
+    inputs: &mut I,
+    name: &str,
+) -> Result<Option<Vec<u8>>, PieceFault>
+    ensures world { I.world inputs.new ≡ I.world inputs.old }
+    ensures bytes { IfOk result (λ o. IfSome (I.world inputs.old) (λ w.
+        option_map (λ v. v.items) o ≡ file_of w (chars name.now))) }
+    ensures counts { LeavesRead result (I.counts inputs.old) (I.counts inputs.new) }
+{
+    match inputs.open_file(name) {
+        Ok(mut file) => {
+            let bytes = read_whole(alloc, &mut file);
+            inputs.close_file(file);
+            Ok(Some(bytes?))
+        }
+        Err(OpenFault::Missing) => Ok(None),
+        Err(OpenFault::Failed) => Err(PieceFault::ReadFault),
+        Err(OpenFault::NoMemory) => Err(PieceFault::NoMemory),
+    }
+}
