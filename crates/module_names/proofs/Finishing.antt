@@ -13,7 +13,7 @@ use Rattle.module_names.specs.declared.order.File.{File}
 use Rattle.module_names.specs.declared.order.Source as code
 use Rattle.module_names.specs.declared.wanted.Found.TheVariants as found
 use Rattle.module_names.specs.Alone.{Reader, AreSources}
-use Rattle.module_names.specs.Answers.{Answered, IsLoaded, AreHeld, HasContents, OpensLoaded}
+use Rattle.module_names.specs.Answers.{Answered, IsLoaded, AreHeld, HasContents, IsMissing, OpensLoaded}
 use Rattle.module_names.specs.Counts.{NoCountFalls, LeavesLoad}
 use Rattle.module_names.specs.Loading.{Name, Sources, Files, source_of, loaded_query}
 use Rattle.std.specs.Prelude.{option_map}
@@ -159,3 +159,12 @@ pub found_then : {T A : Type 0} (reads : Reader T) (kept : code.Source (Kept T))
     → LeavesFound reads (Ok (found.Read kept)) start now → LeavesLoad reads result now after → LeavesLoad reads result start after
 found_then reads kept result start now after g h =
     then_counts kept reads result start now after (record { faults = g.faults; misses = g.misses; falls = g.falls; balanced = g.balanced }) h
+
+-- after the query's file it is not missing
+pub not_missing : {T : Type 0} (n : ℕ) (w : World) (name : Name) (result : Answered T) (before after : InputCounts) → OpensRest n result before after
+    → IsMissing w name result
+not_missing n w name (Ok files) before after h = tt
+not_missing n w name (Err (Refused r contents)) before after h = tt
+not_missing n w name (Err NoQuery) before after h = absurd h
+not_missing n w name (Err ReadFault) before after h = tt
+not_missing n w name (Err NoMemory) before after h = tt

@@ -9,3 +9,4 @@ mod Answering
 mod Stepping
 mod Finding
 mod Finishing
+mod WorldSources

@@ -29,7 +29,7 @@ IsTextRead reads text answer =
     ((place : ℕ) × IsValidUpTo text place × (answer ≡ Err (fault.Refused XPST0003 place)))
     ⊎ (IsUtf8 text × reads text answer)
 
--- a file is refused where it is too long; else its text, which stands behind a byte order mark, is
+-- a file is refused where it is too long; else its text, which stands after a byte order mark, is
 -- read, and places count in it
 abbrev pub IsRead : {T : Type 0} → Reader T → List ℕ → Answer T → Type 0
 IsRead reads bytes answer =

@@ -2,7 +2,7 @@
 use Rattle.std.specs.Prelude.{◌≡◌, ◌≤◌, [], ◌∷◌, map, length, None, Some, Result, Ok, Err}
 use Rattle.outside.specs.Counted.{Rose}
 use Rattle.outside.specs.Opens.{InputCounts}
-use Rattle.outside.specs.World.{World, file_of}
+use Rattle.outside.specs.World.{World, LacksName, file_of}
 use Rattle.std.specs.declared.alloc.Global.{Global}
 use Rattle.std.specs.declared.vec.Vec.{Vec}
 use Rattle.module_names.specs.declared.file_bytes.Kept.{Kept}
@@ -37,6 +37,11 @@ abbrev pub HasContents : {T : Type 0} → World → Answered T → Type 0
 HasContents world (Ok files) = AreHeld world (map done_file files.items)
 HasContents world (Err (Refused r contents)) = file_of world r.file ≡ Some contents
 HasContents world (Err _) = Unit {0}
+
+-- that there is no query is answered only where it is so
+abbrev pub IsMissing : {T : Type 0} → World → Name → Answered T → Type 0
+IsMissing world query (Err NoQuery) = LacksName world query
+IsMissing world query _ = Unit {0}
 
 -- as many files were opened as are answered; with a refusal at least one and at most 64; without a
 -- query none

@@ -7,4 +7,5 @@ pub mod Remaining
 pub mod Alone
 pub mod Counts
 pub mod Answers
+pub mod Worlds
 pub mod inside

@@ -14,7 +14,7 @@ const MAX_LENGTH: usize = 1_048_576;
 /// Why a file is not read.
 #[derive(Clone, Copy, Debug, PartialEq, Eq)]
 pub enum Unread {
-    /// It is refused at this place, which counts behind a byte order mark.
+    /// It is refused at this place, which counts after a byte order mark.
     Refused { code: Code, place: u32 },
     /// Memory ran out.
     NoMemory,

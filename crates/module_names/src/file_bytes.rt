@@ -9,7 +9,7 @@ use std::marker::Model;
 const MARK: &[u8] = b"\xef\xbb\xbf";
 
 /// The bytes of a file, seen as their list.
-#[derive(Drop)]
+#[derive(Debug, Drop)]
 pub struct Contents {
     bytes: Vec<u8>,
 }
@@ -36,7 +36,7 @@ impl Contents {
         &self.bytes
     }
 
-    /// The bytes behind a byte order mark, where they begin with one.
+    /// The bytes after a byte order mark, where they begin with one.
     pub fn text(&self) -> &[u8]
         ensures { result.now ≡ without_mark self.now }
     {
@@ -45,13 +45,13 @@ impl Contents {
 }
 
 /// The bytes of a file, and what else its reader keeps of it.
-#[derive(Drop)]
+#[derive(Debug, Drop)]
 pub struct Kept<T> {
     pub contents: Contents,
     pub rest: T,
 }
 
-/// The bytes behind a byte order mark, where they begin with one.
+/// The bytes after a byte order mark, where they begin with one.
 pub fn without_mark(bytes: &[u8]) -> &[u8]
     ensures rest { result.now ≡ without_mark bytes.now }
     ensures shorter { length result.now ≤ length bytes.now }

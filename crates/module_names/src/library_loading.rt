@@ -3,7 +3,7 @@
 ghost use Rattle.std.specs.Prelude.{◌≡◌, ◌≤◌, ◌<◌, [], length, Ok, true, IfSome};
 ghost use Rattle.std.specs.Fn.{FnReturnsAt};
 ghost use Rattle.module_names.specs.Alone.{AreSources};
-ghost use Rattle.module_names.specs.Answers.{IsLoaded, AreHeld, HasContents, OpensLoaded};
+ghost use Rattle.module_names.specs.Answers.{IsLoaded, AreHeld, HasContents, IsMissing, OpensLoaded};
 ghost use Rattle.module_names.specs.Counts.{LeavesLoad};
 ghost use Rattle.module_names.specs.Loading.{most_files, Sources};
 ghost use Rattle.module_names.specs.Remaining.{State, Asks, state_of, files_in};
@@ -127,7 +127,8 @@ fn advance<I: Inputs, T: Drop, F: Fn(&str) -> Result<Source<T>, Unread>>(
     }
 }
 
-// All steps from these files on. No query takes 2 ^ 64 of them, since each takes an import.
+// All steps from these files on. No query takes 2 ^ 64 of them, since each takes an import or
+// finishes a file.
 fn finish<I: Inputs, T: Drop, F: Fn(&str) -> Result<Source<T>, Unread> + Copy>(
     alloc: Global,
     mut loading: Loading<Kept<T>>,
@@ -173,6 +174,7 @@ pub fn load<I: Inputs, T: Drop, F: Fn(&str) -> Result<Source<T>, Unread> + Copy>
     ensures told { IfSome (I.world inputs.old) (λ w. (sources : Sources (kept.Kept T))
         → AreSources (FnReturnsAt F.Fn read) w sources → IsLoaded sources name.now result) }
     ensures held { IfSome (I.world inputs.old) (λ w. HasContents w result) }
+    ensures missing { IfSome (I.world inputs.old) (λ w. IsMissing w name.now result) }
     ensures counts { LeavesLoad (FnReturnsAt F.Fn read) result (I.counts inputs.old)
         (I.counts inputs.new) }
     ensures opened { OpensLoaded result (I.counts inputs.old) (I.counts inputs.new) }

@@ -7,9 +7,9 @@ use item_tree::NoMemory;
 use line_pieces::PieceFault;
 
 /// Why a query is not loaded.
-#[derive(Drop)]
+#[derive(Debug, Drop)]
 pub enum LoadFault {
-    /// It is refused at a place of a file, which holds these bytes. The place counts behind a byte
+    /// It is refused at a place of a file, which holds these bytes. The place counts after a byte
     /// order mark.
     Refused(Refused, Contents),
     /// There is no file of the query's name.

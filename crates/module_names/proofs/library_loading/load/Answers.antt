@@ -1,7 +1,8 @@
+use Rattle.std.proofs.Common.{length}
 use Rattle.std.specs.Fn.{FnReturnsAt}
-use Rattle.module_names.specs.Remaining.{state_of}
-use Rattle.module_names.proofs.Finishing.{query_unread, query_told, query_held, query_opened, found_then}
-use Rattle.module_names.proofs.Stepping.{told_from, told_from_two, unread_counts}
+use Rattle.module_names.specs.Remaining.{state_of, files_in}
+use Rattle.module_names.proofs.Finishing.{query_unread, query_told, query_held, query_opened, found_then, not_missing}
+use Rattle.module_names.proofs.Stepping.{told_from, told_from_two, told_all, unread_counts}
 use Rattle.module_names.proofs.library_loading.load.Goals as goal
 
 pub returns-in_ok-copy-in-Refused-clause-told : goal.returns-in_ok-copy-in-Refused-clause-told
@@ -44,3 +45,8 @@ returns-in_ok-loading-in-Read-clause-opened g c =
     let begins = rw c.in_ok-copy-in-Read.ensures at c.in_ok-loading-in-Read.ensures in
     query_opened (FnReturnsAt g.F.Fn c.args.read) c.args.name.now (state_of c.in_ok-loading-in-Read.loading) c.in-Read.source c.finish.result _ _ _
     begins counts.opened c.finish.ensures.counts.falls c.finish.ensures.opened
+
+pub returns-in_ok-loading-in-Read-clause-missing : goal.returns-in_ok-loading-in-Read-clause-missing
+returns-in_ok-loading-in-Read-clause-missing g c =
+    told_all (g.I.Inputs.world c.args.inputs.now)
+    (λ w. not_missing (length (files_in (state_of c.in_ok-loading-in-Read.loading))) w c.args.name.now c.finish.result _ _ c.finish.ensures.opened)
