@@ -1,8 +1,8 @@
 -- What is done about an import that was taken.
-use Rattle.std.proofs.Common.{◌≡◌, List, [], ◌∷◌, ◌++◌, Some, Result, Ok, Err, sym, subst}
+use Rattle.std.proofs.Common.{◌≡◌, ◌+◌, List, [], ◌∷◌, ◌++◌, Some, Result, Ok, Err, sym, subst}
 use Rattle.item_tree.specs.declared.code.Code.TheVariants.{PJST0007, PJST0009}
 use Rattle.module_names.specs.declared.head.Import.{Import}
-use Rattle.module_names.specs.Loading.{Name, Refusal, Source, Sources, Files, source_of, loaded}
+use Rattle.module_names.specs.Loading.{Name, Refusal, Source, Sources, Files, so_far, source_of, loaded}
 use Rattle.module_names.specs.Rules.{IsWanted, IsLibrary, Takes, missing, unread, body, stopped, library, query_stopped, query_done}
 use Rattle.module_names.specs.Remaining.{UnderWay, State, path_names, begun, Remains, no_more, stops, goes_on, Asks, AsksAreAnswered}
 use Rattle.module_names.proofs.LoadingRules as rules
@@ -57,13 +57,13 @@ pub answered : (T : Type 0) → AsksAreAnswered T
 answered T = record {
   library = added;
   missing = λ sources old new i asks h.
-      refused_there sources old new i (record { file = asks.file; code = PJST0007; place = i.place }) asks
+      refused_there sources old new i (record { file = asks.file; code = PJST0007; place = i.place; opened = so_far (asks.file ∷ path_names asks.outer) old.done }) asks
       (missing asks.file (path_names asks.outer) i asks.left old.done asks.wanted h);
   unread = λ sources old new i u asks h.
-      refused_there sources old new i (record { file = i.name; code = u.code; place = u.place }) asks
+      refused_there sources old new i (record { file = i.name; code = u.code; place = u.place; opened = so_far (asks.file ∷ path_names asks.outer) old.done + 1 }) asks
       (unread asks.file (path_names asks.outer) i asks.left old.done u asks.wanted h);
   other_body = λ sources old new i source place asks h b.
-      refused_there sources old new i (record { file = i.name; code = PJST0009; place = place }) asks
+      refused_there sources old new i (record { file = i.name; code = PJST0009; place = place; opened = so_far (asks.file ∷ path_names asks.outer) old.done + 1 }) asks
       (body asks.file (path_names asks.outer) i asks.left old.done source place asks.wanted h b);
   begins = begins;
   ends = λ sources s e. subst (λ (us : List (UnderWay T)). Remains sources us s.done (Ok s.done)) (sym e) (no_more s.done);

@@ -1,5 +1,5 @@
 -- All steps of loading, to their end.
-use Rattle.std.proofs.Common.{◌≡◌, ◌⊎◌, inl, inr, ◌<◌, ◌≤◌, ◌+◌, ℕ, List, [], ◌∷◌, ◌++◌, map, length, Some, Result, Ok, Err, Vec, Global, refl, sym, ap, ◌∙◌, subst, arith}
+use Rattle.std.proofs.Common.{◌≡◌, inl, inr, ◌<◌, ◌≤◌, ◌+◌, ℕ, List, [], ◌∷◌, ◌++◌, map, length, Some, Result, Ok, Err, Vec, Global, refl, sym, ap, ◌∙◌, subst, arith}
 use Rattle.std.proofs.lemmas.List.{length-map}
 use Rattle.item_tree.specs.declared.code.Code.{Code}
 use Rattle.outside.specs.Counted.{RoseByOne}
@@ -10,6 +10,7 @@ use Rattle.module_names.specs.declared.file_bytes.Kept.{Kept}
 use Rattle.module_names.specs.declared.load_fault.LoadFault.{LoadFault}
 use Rattle.module_names.specs.declared.load_fault.LoadFault.TheVariants.{Refused, NoQuery, ReadFault, NoMemory}
 use Rattle.module_names.specs.declared.order.File.{File}
+use Rattle.module_names.specs.declared.order.Refused as told
 use Rattle.module_names.specs.declared.order.Source as code
 use Rattle.module_names.specs.declared.wanted.Found.TheVariants as found
 use Rattle.module_names.specs.Alone.{Reader, AreSources}
@@ -21,7 +22,8 @@ use Rattle.module_names.specs.Remaining.{State, Remains, begun, files_in, done_f
 use Rattle.module_names.specs.inside.Advance.{StepsTo, StaysHeld, OpensStep, EndsAs, OpensRest}
 use Rattle.module_names.specs.inside.Wanted.{IsFound, LeavesFound}
 use Rattle.module_names.proofs.Answering.{answered}
-use Rattle.module_names.proofs.Stepping.{then_counts, count_files}
+use Rattle.module_names.proofs.Stepping.{then_counts}
+use Rattle.module_names.proofs.Steps.{count_files}
 
 -- ---- another value beside the same counts
 
@@ -103,23 +105,19 @@ just_opened : (n k before now after : ℕ) → RoseByOne before now → now ≤ 
 just_opened n k before now after (inl (lt, is)) up e le exact = (omega (arith, is, e, le), λ small. let more = exact small in omega (arith, is, e, more))
 just_opened n k before now after (inr (full, is)) up e le exact = (omega (arith, is, e, le), λ small. absurd (omega (arith, full, is, up, small)))
 
-rose_up : (before now after : ℕ) → RoseByOne before now → now ≤ after → (before < after) ⊎ (18446744073709551615 ≤ after)
-rose_up before now after (inl (lt, is)) up = inl (omega (arith, is, up))
-rose_up before now after (inr (full, is)) up = inr (omega (arith, full, is, up))
-
 opened_by : {T : Type 0} (result : Answered T) (before now after : InputCounts) → RoseByOne before.opened now.opened → NoCountFalls now after
     → OpensRest 1 result now after → OpensLoaded result before after
 opened_by (Ok files) before now after rose falls (k, e, few, just) =
     (few, just_opened (length files.items) k before.opened now.opened after.opened rose falls.opened e just.0 just.1)
-opened_by (Err (Refused r contents)) before now after rose falls (k, few, most) =
-    (rose_up before.opened now.opened after.opened rose falls.opened, most_opened k before.opened now.opened after.opened rose most few)
+opened_by (Err (Refused r contents)) before now after rose falls (k, e, few, just) =
+    (omega (arith, e), few, just_opened r.opened k before.opened now.opened after.opened rose falls.opened e just.0 just.1)
 opened_by (Err NoQuery) before now after rose falls h = absurd h
 opened_by (Err ReadFault) before now after rose falls (k, few, most) = most_opened k before.opened now.opened after.opened rose most few
 opened_by (Err NoMemory) before now after rose falls (k, few, most) = most_opened k before.opened now.opened after.opened rose most few
 
 module _ {T : Type 0} (reads : Reader T) (name : Name) where
   pub query_unread : (w : World) (fault : LoadFault) (c : Code) (place : ℕ) (contents : List ℕ)
-      → fault ≡ Refused (record { file = name; code = c; place = place }) contents → IsFound reads w name (found.Refused c place contents)
+      → fault ≡ Refused (record { file = name; code = c; place = place; opened = 1 }) contents → IsFound reads w name (found.Refused c place contents)
       → (sources : Sources (Kept T)) → AreSources reads w sources → IsLoaded sources name (Err fault)
   query_unread w fault c place contents is (there, read) sources are =
       let own : source_of sources name ≡ Some (Err (record { code = c; place = place })) =
@@ -168,3 +166,10 @@ not_missing n w name (Err (Refused r contents)) before after h = tt
 not_missing n w name (Err NoQuery) before after h = absurd h
 not_missing n w name (Err ReadFault) before after h = tt
 not_missing n w name (Err NoMemory) before after h = tt
+
+-- the query's file alone was opened
+pub query_refused : (T : Type 0) (r : told.Refused) (contents : List ℕ) (fault : LoadFault) (before after : InputCounts) → fault ≡ Refused r contents → r.opened ≡ 1
+    → RoseByOne before.opened after.opened → OpensLoaded {T = T} (Err fault) before after
+query_refused T r contents fault before after is one rose =
+    subst (λ (f : LoadFault). OpensLoaded {T = T} (Err f) before after) (sym is)
+    (omega (arith, one), omega (arith, one), just_opened r.opened 0 before.opened after.opened after.opened rose (omega arith) (omega (arith, one)) (omega arith) (λ small. omega arith))

@@ -5,7 +5,7 @@ use Rattle.std.proofs.lemmas.Bool.{ltb-true}
 use Rattle.std.proofs.lemmas.Slice.Eq.{bytes_eq-Decides}
 use Rattle.item_tree.specs.declared.code.Code.TheVariants.{PJST0006, PJST0008}
 use Rattle.module_names.specs.declared.head.Import.{Import}
-use Rattle.module_names.specs.Loading.{Name, Refusal, Source, Unread, Sources, Files, has_name, refused, and_then, most_files, Onward, names_of, source_of, library_of, opened, import_one, import_all, load_below, loaded_query, loaded}
+use Rattle.module_names.specs.Loading.{Name, Refusal, Source, Unread, Sources, Files, has_name, refused, and_then, most_files, Onward, names_of, so_far, source_of, library_of, opened, import_one, import_all, load_below, loaded_query, loaded}
 use Rattle.module_names.specs.Loaded.{Reached, here, imported, AllNamed, IsFile, InOrder, AreLibraries, AreLoaded}
 
 -- names
@@ -166,7 +166,7 @@ module _ {T : Type 0} (sources : Sources T) (query : Name) where
   room_case : (onward : Onward T) (file : Name) (path : List Name) → GoesOn onward (file ∷ path) → (i : Import) (done fs : Files T)
       → Kept (file ∷ path) done → Reached sources query i.name → has_name i.name (file ∷ path) ≡ false
       → has_name i.name (names done) ≡ false → (b : Bool) → nat_lt (length (file ∷ path) + length done) most_files ≡ b
-      → (if b then opened onward file path i (source_of sources i.name) done else refused file PJST0008 i.place) ≡ Ok fs
+      → (if b then opened onward file path i (source_of sources i.name) done else refused file PJST0008 i.place (so_far (file ∷ path) done)) ≡ Ok fs
       → Taken (file ∷ path) (i ∷ []) done fs
   room_case onward file path goes i done fs kept reached off new true e h =
       opened_case onward file path goes i done fs kept reached off new (ltb-true (length (file ∷ path) + length done) 64 e)
@@ -178,7 +178,7 @@ module _ {T : Type 0} (sources : Sources T) (query : Name) where
       → (b : Bool) → has_name i.name (names done) ≡ b
       → (if b then Ok done else
       (if nat_lt (length (file ∷ path) + length done) most_files
-      then opened onward file path i (source_of sources i.name) done else refused file PJST0008 i.place)) ≡ Ok fs
+      then opened onward file path i (source_of sources i.name) done else refused file PJST0008 i.place (so_far (file ∷ path) done))) ≡ Ok fs
       → Taken (file ∷ path) (i ∷ []) done fs
   done_case onward file path goes i done fs kept reached off true e h =
       let same : done ≡ fs = cc in
@@ -192,10 +192,10 @@ module _ {T : Type 0} (sources : Sources T) (query : Name) where
 
   path_case : (onward : Onward T) (file : Name) (path : List Name) → GoesOn onward (file ∷ path) → (i : Import) (done fs : Files T)
       → Kept (file ∷ path) done → Reached sources query i.name → (b : Bool) → has_name i.name (file ∷ path) ≡ b
-      → (if b then refused file PJST0006 i.place else
+      → (if b then refused file PJST0006 i.place (so_far (file ∷ path) done) else
       (if has_name i.name (names done) then Ok done else
       (if nat_lt (length (file ∷ path) + length done) most_files
-      then opened onward file path i (source_of sources i.name) done else refused file PJST0008 i.place))) ≡ Ok fs
+      then opened onward file path i (source_of sources i.name) done else refused file PJST0008 i.place (so_far (file ∷ path) done)))) ≡ Ok fs
       → Taken (file ∷ path) (i ∷ []) done fs
   path_case onward file path goes i done fs kept reached true e h = absurd cc
   path_case onward file path goes i done fs kept reached false e h =

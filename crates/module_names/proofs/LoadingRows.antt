@@ -33,8 +33,8 @@ order ss = option_map done (loaded ss (named 0))
 abbrev in_order : List ℕ → Option (Result (List Name) Refusal)
 in_order ns = Some (Ok (map named ns))
 
-abbrev stops : ℕ → Code → ℕ → Option (Result (List Name) Refusal)
-stops n code place = Some (refused (named n) code place)
+abbrev stops : ℕ → Code → ℕ → ℕ → Option (Result (List Name) Refusal)
+stops n code place opened = Some (refused (named n) code place opened)
 
 -- a query alone, and none
 alone : order (query 0 [] 5 ∷ []) ≡ in_order (0 ∷ [])
@@ -51,31 +51,31 @@ imported_twice : order (query 0 (1 ∷ 1 ∷ []) 5 ∷ file 1 [] ∷ []) ≡ in_
 imported_twice = refl
 
 -- a circle is told where it closes
-circle_of_three : order (query 0 (1 ∷ []) 5 ∷ file 1 (2 ∷ []) ∷ file 2 (3 ∷ []) ∷ file 3 (1 ∷ []) ∷ []) ≡ stops 3 PJST0006 1
+circle_of_three : order (query 0 (1 ∷ []) 5 ∷ file 1 (2 ∷ []) ∷ file 2 (3 ∷ []) ∷ file 3 (1 ∷ []) ∷ []) ≡ stops 3 PJST0006 1 4
 circle_of_three = refl
 
-itself : order (query 0 (1 ∷ []) 5 ∷ file 1 (1 ∷ []) ∷ []) ≡ stops 1 PJST0006 1
+itself : order (query 0 (1 ∷ []) 5 ∷ file 1 (1 ∷ []) ∷ []) ≡ stops 1 PJST0006 1 2
 itself = refl
 
-query_imported : order (query 0 (1 ∷ []) 5 ∷ file 1 (2 ∷ 0 ∷ []) ∷ file 2 [] ∷ []) ≡ stops 1 PJST0006 0
+query_imported : order (query 0 (1 ∷ []) 5 ∷ file 1 (2 ∷ 0 ∷ []) ∷ file 2 [] ∷ []) ≡ stops 1 PJST0006 0 3
 query_imported = refl
 
 -- the first of two refusals on the way is told
-missing_behind_a_faulty_one : order (query 0 (1 ∷ 2 ∷ []) 5 ∷ faulty 1 7 ∷ []) ≡ stops 1 XPST0003 7
+missing_behind_a_faulty_one : order (query 0 (1 ∷ 2 ∷ []) 5 ∷ faulty 1 7 ∷ []) ≡ stops 1 XPST0003 7 2
 missing_behind_a_faulty_one = refl
 
-faulty_behind_a_missing_one : order (query 0 (2 ∷ 1 ∷ []) 5 ∷ faulty 1 7 ∷ []) ≡ stops 0 PJST0007 2
+faulty_behind_a_missing_one : order (query 0 (2 ∷ 1 ∷ []) 5 ∷ faulty 1 7 ∷ []) ≡ stops 0 PJST0007 2 1
 faulty_behind_a_missing_one = refl
 
 -- the body of a library is tested before its imports
-other_body : order (query 0 (1 ∷ []) 5 ∷ query 1 (9 ∷ []) 8 ∷ []) ≡ stops 1 PJST0009 8
+other_body : order (query 0 (1 ∷ []) 5 ∷ query 1 (9 ∷ []) 8 ∷ []) ≡ stops 1 PJST0009 8 2
 other_body = refl
 
 -- 64 files are loaded, and no more
 abbrev wide : ℕ → Sources (Unit {0})
 wide count = query 0 (range_with_len 1 count) 5 ∷ map (λ n. file n []) (range_with_len 1 count)
 
-one_too_many : order (wide 64) ≡ stops 0 PJST0008 64
+one_too_many : order (wide 64) ≡ stops 0 PJST0008 64 64
 one_too_many = refl
 
 abbrev is_loaded : Option (Result (List Name) Refusal) → Type 0

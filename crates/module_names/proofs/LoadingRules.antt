@@ -3,7 +3,7 @@ use Rattle.std.proofs.Common.{◌≡◌, ℕ, zero, suc, ◌+◌, ◌<◌, ◌�
 use Rattle.std.proofs.lemmas.Bool.{ltb-true, ltb-false, lt-ltb, le-ltb}
 use Rattle.item_tree.specs.declared.code.Code.TheVariants.{PJST0006, PJST0008}
 use Rattle.module_names.specs.declared.head.Import.{Import}
-use Rattle.module_names.specs.Loading.{Name, Refusal, Source, Unread, Sources, Files, has_name, refused, and_then, most_files, Onward, names_of, source_of, library_of, opened, import_one, import_all, load_below, loaded_query, loaded}
+use Rattle.module_names.specs.Loading.{Name, Refusal, Source, Unread, Sources, Files, has_name, refused, and_then, most_files, Onward, names_of, so_far, source_of, library_of, opened, import_one, import_all, load_below, loaded_query, loaded}
 use Rattle.module_names.specs.Rules.{IsNew, IsWanted, IsLibrary, Takes, none, circle, again, full, missing, unread, body, stopped, library, Loads, no_query, query_unread, query_stopped, query_done}
 
 module _ {T : Type 0} (sources : Sources T) where
@@ -12,13 +12,13 @@ module _ {T : Type 0} (sources : Sources T) where
 
   -- one import by the answers to its tests
   abbrev by_room : Onward T → Name → List Name → Import → Files T → Bool → Option (Result (Source T) Unread) → End
-  by_room onward file path i done b o = if b then opened onward file path i o done else refused file PJST0008 i.place
+  by_room onward file path i done b o = if b then opened onward file path i o done else refused file PJST0008 i.place (so_far (file ∷ path) done)
 
   abbrev by_done : Onward T → Name → List Name → Import → Files T → Bool → Bool → Option (Result (Source T) Unread) → End
   by_done onward file path i done d b o = if d then Ok done else by_room onward file path i done b o
 
   abbrev by_tests : Onward T → Name → List Name → Import → Files T → Bool → Bool → Bool → Option (Result (Source T) Unread) → End
-  by_tests onward file path i done p d b o = if p then refused file PJST0006 i.place else by_done onward file path i done d b o
+  by_tests onward file path i done p d b o = if p then refused file PJST0006 i.place (so_far (file ∷ path) done) else by_done onward file path i done d b o
 
   abbrev has_room : List Name → Files T → Bool
   has_room path done = nat_lt (length path + length done) most_files

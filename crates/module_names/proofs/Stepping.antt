@@ -1,7 +1,7 @@
 -- Steps of loading: what each answer comes to, and one step after others.
 use Rattle.std.proofs.Common.{◌≡◌, ◌⊎◌, inl, inr, ◌<◌, ◌≤◌, ◌+◌, ℕ, suc, List, [], ◌∷◌, ◌++◌, map, length, Option, Some, None, Result, Ok, Err, refl, sym, ap, ◌∙◌, subst, arith}
 use Rattle.std.specs.Prelude.{IfSome}
-use Rattle.std.proofs.lemmas.List.{length-append, length-map}
+use Rattle.std.proofs.lemmas.List.{length-map}
 use Rattle.item_tree.specs.declared.code.Code.{Code}
 use Rattle.item_tree.specs.declared.code.Code.TheVariants.{PJST0006, PJST0007, PJST0008, PJST0009}
 use Rattle.line_pieces.specs.declared.fault.PieceFault.{PieceFault}
@@ -20,12 +20,13 @@ use Rattle.module_names.specs.declared.wanted.Found.TheVariants as found
 use Rattle.module_names.specs.Alone.{Reader, AreSources}
 use Rattle.module_names.specs.Answers.{AreHeld}
 use Rattle.module_names.specs.Counts.{NoCountFalls, IsBalanced, OpenedAtMost, OtherCause, circle, full, body, FaultsBy, MissesBy, LeavesLoad}
-use Rattle.module_names.specs.Loading.{Name, Source, Sources, Files}
-use Rattle.module_names.specs.Remaining.{UnderWay, State, Asks, begun, files_in, refusal_of, source_view, RefusesInnermost}
+use Rattle.module_names.specs.Loading.{Name, Source, Sources, Files, so_far}
+use Rattle.module_names.specs.Remaining.{UnderWay, State, Remains, path_names, Asks, begun, files_in, refusal_of, source_view, RefusesInnermost}
 use Rattle.module_names.specs.inside.Advance.{RefusesFile, RefusesTop, StepsTo, StaysHeld, OpensStep}
 use Rattle.module_names.specs.inside.Faults.{fault_of}
 use Rattle.module_names.specs.inside.Wanted.{IsFound, LeavesFound}
 use Rattle.module_names.proofs.Answering.{answered}
+use Rattle.module_names.proofs.Steps.{count_files}
 
 -- ---- of a told world
 
@@ -43,39 +44,53 @@ told_all (Some w) f = f w
 
 -- ---- the import is answered
 
+asks_count : {T : Type 0} (before s : State T) (i : Import) (asks : Asks before s i) → so_far (asks.file ∷ path_names asks.outer) before.done ≡ length (files_in s)
+asks_count before s i asks =
+    let all : length (files_in s) ≡ length s.done + length s.path = count_files s in
+    let deep : length s.path ≡ suc (length asks.outer) = ap length asks.after in
+    let names : length (path_names asks.outer) ≡ length asks.outer = length-map asks.outer (λ f. f.name) in
+    let wide : length s.done ≡ length before.done = ap length asks.same in
+    omega (arith, all, deep, names, wide)
+
 module _ {T : Type 0} (A : Type 0) (reads : Reader T) (w : World) (before s new : State (Kept T)) (i : Import) where
   -- a library is missing
-  missing_there : (sources : Sources (Kept T)) (fault : LoadFault) → RefusesTop s.path PJST0007 i.place fault → file_of w i.name ≡ None
+  missing_there : (sources : Sources (Kept T)) (n : ℕ) (fault : LoadFault) → n ≡ length (files_in s) → RefusesTop s.path PJST0007 i.place n fault
+      → file_of w i.name ≡ None
       → AreSources reads w sources → Asks before s i → StepsTo {A = A} sources before new (Err fault)
-  missing_there sources fault top none are asks =
-      let at : RefusesFile (record { name = asks.file; source = asks.source; left = asks.left }) PJST0007 i.place fault =
-      subst (λ (us : List (UnderWay (Kept T))). RefusesTop us PJST0007 i.place fault) asks.after top in
+  missing_there sources n fault count top none are asks =
+      let at : RefusesFile (record { name = asks.file; source = asks.source; left = asks.left }) PJST0007 i.place n fault =
+      subst (λ (us : List (UnderWay (Kept T))). RefusesTop us PJST0007 i.place n fault) asks.after top in
       subst (λ (f : LoadFault). StepsTo {A = A} sources before new (Err f)) (sym at.is)
-      ((answered (Kept T)).missing sources before s i asks (are.missing i.name none))
+      (subst (λ (k : ℕ). Remains sources before.path before.done (Err (record { file = asks.file; code = PJST0007; place = i.place; opened = k })))
+      (asks_count before s i asks ∙ sym count) ((answered (Kept T)).missing sources before s i asks (are.missing i.name none)))
 
-  pub missing_told : (fault : LoadFault) → RefusesTop s.path PJST0007 i.place fault → IsFound reads w i.name found.Missing
+  pub missing_told : (n : ℕ) (fault : LoadFault) → n ≡ length (files_in s) → RefusesTop s.path PJST0007 i.place n fault → IsFound reads w i.name found.Missing
       → (sources : Sources (Kept T)) → AreSources reads w sources → Asks before s i → StepsTo {A = A} sources before new (Err fault)
-  missing_told fault top none sources are asks = missing_there sources fault top none are asks
+  missing_told n fault count top none sources are asks = missing_there sources n fault count top none are asks
 
   -- a library is refused that is read alone
-  pub unread_told : (fault : LoadFault) (c : Code) (place : ℕ) (contents : List ℕ)
-      → fault ≡ Refused (record { file = i.name; code = c; place = place }) contents → IsFound reads w i.name (found.Refused c place contents)
+  pub unread_told : (fault : LoadFault) (c : Code) (place n : ℕ) (contents : List ℕ) → n ≡ length (files_in s)
+      → fault ≡ Refused (record { file = i.name; code = c; place = place; opened = n + 1 }) contents → IsFound reads w i.name (found.Refused c place contents)
       → (sources : Sources (Kept T)) → AreSources reads w sources → Asks before s i → StepsTo {A = A} sources before new (Err fault)
-  unread_told fault c place contents is (there, read) sources are asks =
+  unread_told fault c place n contents count is (there, read) sources are asks =
       subst (λ (f : LoadFault). StepsTo {A = A} sources before new (Err f)) (sym is)
+      (subst (λ (k : ℕ). Remains sources before.path before.done (Err (record { file = i.name; code = c; place = place; opened = k + 1 })))
+      (asks_count before s i asks ∙ sym count)
       ((answered (Kept T)).unread sources before s i (record { code = c; place = place }) asks
-      (are.read i.name contents (Err (unread.Refused c place)) (Err (record { code = c; place = place })) there read refl))
+      (are.read i.name contents (Err (unread.Refused c place)) (Err (record { code = c; place = place })) there read refl)))
 
   -- a library has a body that is not `()`
-  pub body_told : (fault : LoadFault) (kept : code.Source (Kept T)) (place : ℕ)
-      → fault ≡ Refused (record { file = i.name; code = PJST0009; place = place }) kept.rest.contents → kept.body ≡ Some place
+  pub body_told : (fault : LoadFault) (kept : code.Source (Kept T)) (place n : ℕ) → n ≡ length (files_in s)
+      → fault ≡ Refused (record { file = i.name; code = PJST0009; place = place; opened = n + 1 }) kept.rest.contents → kept.body ≡ Some place
       → IsFound reads w i.name (found.Read kept)
       → (sources : Sources (Kept T)) → AreSources reads w sources → Asks before s i → StepsTo {A = A} sources before new (Err fault)
-  body_told fault kept place is b (there, k) sources are asks =
+  body_told fault kept place n count is b (there, k) sources are asks =
       let (source, read, view) = k in
       subst (λ (f : LoadFault). StepsTo {A = A} sources before new (Err f)) (sym is)
+      (subst (λ (m : ℕ). Remains sources before.path before.done (Err (record { file = i.name; code = PJST0009; place = place; opened = m + 1 })))
+      (asks_count before s i asks ∙ sym count)
       ((answered (Kept T)).other_body sources before s i (source_view kept) place asks
-      (are.read i.name kept.rest.contents (Ok source) (Ok (source_view kept)) there read (ap Ok view)) b)
+      (are.read i.name kept.rest.contents (Ok source) (Ok (source_view kept)) there read (ap Ok view)) b))
 
   -- a library goes under way
   pub library_told : (x : A) (kept : code.Source (Kept T)) → kept.body ≡ None → IsFound reads w i.name (found.Read kept)
@@ -99,16 +114,16 @@ held_with : {T : Type 0} (w : World) (done : Files (Kept T)) (f : Name × Source
 held_with w [] f more own h = (own, h)
 held_with w (d ∷ done) f more own h = (h.0, held_with w done f more own h.1)
 
-held_at : {T : Type 0} (A : Type 0) (w : World) (done : Files (Kept T)) (path : List (UnderWay (Kept T))) (files : Files (Kept T)) (c : Code) (place : ℕ) (fault : LoadFault)
-    → RefusesTop path c place fault → AreHeld w (done ++ map (λ f. (f.name, f.source)) path) → StaysHeld {T = T} {A = A} w files (Err fault)
-held_at {T} A w done [] files c place fault is h = subst (λ (f : LoadFault). StaysHeld {T = T} {A = A} w files (Err f)) (sym is) tt
-held_at {T} A w done (u ∷ us) files c place fault r h =
+held_at : {T : Type 0} (A : Type 0) (w : World) (done : Files (Kept T)) (path : List (UnderWay (Kept T))) (files : Files (Kept T)) (c : Code) (place n : ℕ) (fault : LoadFault)
+    → RefusesTop path c place n fault → AreHeld w (done ++ map (λ f. (f.name, f.source)) path) → StaysHeld {T = T} {A = A} w files (Err fault)
+held_at {T} A w done [] files c place n fault is h = subst (λ (f : LoadFault). StaysHeld {T = T} {A = A} w files (Err f)) (sym is) tt
+held_at {T} A w done (u ∷ us) files c place n fault r h =
     subst (λ (f : LoadFault). StaysHeld {T = T} {A = A} w files (Err f)) (sym r.is)
     (held_among w done (u.name, u.source) (map (λ f. (f.name, f.source)) us) h)
 
-pub refused_held : {T : Type 0} (A : Type 0) (w : World) (s : State (Kept T)) (files : Files (Kept T)) (c : Code) (place : ℕ) (fault : LoadFault)
-    → RefusesTop s.path c place fault → AreHeld w (files_in s) → StaysHeld {T = T} {A = A} w files (Err fault)
-refused_held A w s files c place fault top h = held_at A w s.done s.path files c place fault top h
+pub refused_held : {T : Type 0} (A : Type 0) (w : World) (s : State (Kept T)) (files : Files (Kept T)) (c : Code) (place n : ℕ) (fault : LoadFault)
+    → RefusesTop s.path c place n fault → AreHeld w (files_in s) → StaysHeld {T = T} {A = A} w files (Err fault)
+refused_held A w s files c place n fault top h = held_at A w s.done s.path files c place n fault top h
 
 pub library_held : {T : Type 0} (reads : Reader T) (w : World) (s new : State (Kept T)) (name : Name) (kept : code.Source (Kept T))
     → IsFound reads w name (found.Read kept) → new ≡ record { path = begun name (source_view kept) ∷ s.path; done = s.done }
@@ -123,11 +138,11 @@ module _ {T : Type 0} (A : Type 0) (reads : Reader T) where
   no_memory : (start after : InputCounts) → NoCountFalls start after → IsBalanced start after → LeavesLoad {A = A} reads (Err NoMemory) start after
   no_memory start after falls balanced = record { faults = tt; misses = tt; falls = falls; balanced = balanced }
 
-  pub missing_counts : (path : List (UnderWay (Kept T))) (place : ℕ) (fault : LoadFault) (start after : InputCounts)
-      → RefusesTop path PJST0007 place fault → LeavesFound reads (Ok found.Missing) start after → LeavesLoad {A = A} reads (Err fault) start after
-  missing_counts [] place fault start after is h =
+  pub missing_counts : (path : List (UnderWay (Kept T))) (place n : ℕ) (fault : LoadFault) (start after : InputCounts)
+      → RefusesTop path PJST0007 place n fault → LeavesFound reads (Ok found.Missing) start after → LeavesLoad {A = A} reads (Err fault) start after
+  missing_counts [] place n fault start after is h =
       subst (λ (f : LoadFault). LeavesLoad {A = A} reads (Err f) start after) (sym is) (no_memory start after h.falls h.balanced)
-  missing_counts (u ∷ us) place fault start after r h =
+  missing_counts (u ∷ us) place n fault start after r h =
       subst (λ (f : LoadFault). LeavesLoad {A = A} reads (Err f) start after) (sym r.is)
       (record { faults = h.faults; misses = inr (refl, h.misses); falls = h.falls; balanced = h.balanced })
 
@@ -148,14 +163,14 @@ module _ {T : Type 0} (A : Type 0) (reads : Reader T) where
   other_code r (inl e) = subst (λ (d : Code). OtherCause reads d) (sym e) circle
   other_code r (inr e) = subst (λ (d : Code). OtherCause reads d) (sym e) full
 
-  pub refused_counts : (s : State (Kept T)) (path : List (UnderWay (Kept T))) (r : told.Refused) (place : ℕ) (fault : LoadFault) (counts : InputCounts)
-      → RefusesTop path r.code place fault → RefusesInnermost s r → LeavesLoad {A = A} reads (Err fault) counts counts
-  refused_counts s [] r place fault counts is inner =
+  pub refused_counts : (s : State (Kept T)) (path : List (UnderWay (Kept T))) (r : told.Refused) (place n : ℕ) (fault : LoadFault) (counts : InputCounts)
+      → RefusesTop path r.code place n fault → RefusesInnermost s r → LeavesLoad {A = A} reads (Err fault) counts counts
+  refused_counts s [] r place n fault counts is inner =
       subst (λ (f : LoadFault). LeavesLoad {A = A} reads (Err f) counts counts) (sym is)
       (no_memory counts counts
       (record { faults = omega arith; misses = omega arith; opened = omega arith; closed = omega arith })
       (record { same = λ o c. refl }))
-  refused_counts s (u ∷ us) r place fault counts top inner =
+  refused_counts s (u ∷ us) r place n fault counts top inner =
       subst (λ (f : LoadFault). LeavesLoad {A = A} reads (Err f) counts counts) (sym top.is)
       (record {
         faults = refl;
@@ -183,12 +198,19 @@ pub opened_short : (A : Type 0) (old new : ℕ) (before after : InputCounts) →
 opened_short A old new before after lt rose = (1, omega (arith, lt), rose_most before.opened after.opened rose)
 
 pub opened_refused : (A : Type 0) (old new : ℕ) (r : told.Refused) (contents : List ℕ) (fault : LoadFault) (before after : InputCounts) → old < 64
-    → fault ≡ Refused r contents → RoseByOne before.opened after.opened → OpensStep {A = A} old new (Err fault) before after
-opened_refused A old new r contents fault before after lt is rose =
-    subst (λ (f : LoadFault). OpensStep {A = A} old new (Err f) before after) (sym is) (1, omega (arith, lt), rose_most before.opened after.opened rose)
+    → fault ≡ Refused r contents → r.opened ≡ old + 1 → RoseByOne before.opened after.opened → OpensStep {A = A} old new (Err fault) before after
+opened_refused A old new r contents fault before after lt is count rose =
+    subst (λ (f : LoadFault). OpensStep {A = A} old new (Err f) before after) (sym is)
+    (1, count, omega (arith, lt, count), (rose_most before.opened after.opened rose, rose_just before.opened after.opened rose))
 
-pub count_files : {T : Type 0} (s : State T) → length (files_in s) ≡ length s.done + length s.path
-count_files s = length-append s.done (map (λ f. (f.name, f.source)) s.path) ∙ ap (λ n. length s.done + n) (length-map s.path (λ f. (f.name, f.source)))
+-- the innermost file is refused, and no further one was opened
+pub opened_top : {T : Type 0} (A : Type 0) (path : List (UnderWay (Kept T))) (c : Code) (place n old new : ℕ) (fault : LoadFault) (before after : InputCounts)
+    → RefusesTop path c place n fault → n ≡ old → old ≤ 64 → after.opened ≡ before.opened → OpensStep {A = A} old new (Err fault) before after
+opened_top A [] c place n old new fault before after is count few same =
+    subst (λ (f : LoadFault). OpensStep {A = A} old new (Err f) before after) (sym is) (0, omega (arith, few), omega (arith, same))
+opened_top A (u ∷ us) c place n old new fault before after top count few same =
+    subst (λ (f : LoadFault). OpensStep {A = A} old new (Err f) before after) (sym top.is)
+    (0, omega (arith, count), omega (arith, count, few), (omega (arith, same), λ small. omega (arith, same)))
 
 pub library_opened : {T A : Type 0} (x : A) (s new : State (Kept T)) (name : Name) (source : Source (Kept T)) (before after : InputCounts)
     → length (files_in s) < 64 → new ≡ record { path = begun name source ∷ s.path; done = s.done } → RoseByOne before.opened after.opened
@@ -248,7 +270,18 @@ module _ {A B : Type 0} (x : A) where
           omega (arith, last, mid),
     ),
   )
-  then_opened a b c (Err (Refused r contents)) start now after falls g (k, le, most) = opened_more x a b k start now after g le most
+  then_opened a b c (Err (Refused r contents)) start now after falls (j, e, few, just) (k, d, most, only) = (
+    j + k,
+    omega (arith, e, d),
+    most,
+    (
+      omega (arith, just.0, only.0),
+      λ small.
+          let last = only.1 small in
+          let mid = just.1 (omega (arith, falls.opened, small)) in
+          omega (arith, last, mid),
+    ),
+  )
   then_opened a b c (Err NoQuery) start now after falls g h = h
   then_opened a b c (Err ReadFault) start now after falls g (k, le, most) = opened_more x a b k start now after g le most
   then_opened a b c (Err NoMemory) start now after falls g (k, le, most) = opened_more x a b k start now after g le most

@@ -1,13 +1,13 @@
 -- What remains of loading, step by step.
 use Rattle.std.proofs.Common.{◌≡◌, ◌⊎◌, inl, inr, ℕ, ◌+◌, ◌<◌, ◌≤◌, Bool, true, false, ◌||◌, List, [], ◌∷◌, ◌++◌, map, reverse, length, drop, get_or, Result, Ok, Err, refl, sym, ap, ◌∙◌, subst, arith}
 use Rattle.std.specs.Str.{bytes_eq}
-use Rattle.std.proofs.lemmas.List.{map-append, reverse-append, length-map, length-reverse, drop_more, drop_all}
+use Rattle.std.proofs.lemmas.List.{map-append, reverse-append, length-append, length-map, length-reverse, drop_more, drop_all}
 use Rattle.item_tree.specs.declared.code.Code.{Code}
 use Rattle.item_tree.specs.declared.code.Code.TheVariants.{PJST0006, PJST0008}
 use Rattle.module_names.specs.declared.head.Import.{Import}
-use Rattle.module_names.specs.Loading.{Name, Refusal, Sources, Files, has_name, most_files, names_of}
+use Rattle.module_names.specs.Loading.{Name, Refusal, Sources, Files, has_name, most_files, names_of, so_far}
 use Rattle.module_names.specs.Rules.{Takes, none, circle, again, full}
-use Rattle.module_names.specs.Remaining.{UnderWay, path_names, Remains, stops, goes_on, under_way, done_file, refusal_of, Asks, State, RefusesInnermost}
+use Rattle.module_names.specs.Remaining.{UnderWay, path_names, Remains, stops, goes_on, under_way, done_file, refusal_of, files_in, Asks, State, RefusesInnermost}
 use Rattle.module_names.specs.declared.order.File.{File}
 use Rattle.module_names.specs.declared.order.Refused.{Refused}
 use Rattle.module_names.specs.inside.Order.{file_names}
@@ -33,19 +33,19 @@ module _ {T : Type 0} (sources : Sources T) where
 
   pub import_circles : (f : UnderWay T) (i : Import) (is : List Import) (path : List (UnderWay T)) (done : Files T) → f.left ≡ i ∷ is
       → has_name i.name (f.name ∷ path_names path) ≡ true
-      → Remains sources (f ∷ path) done (Err (record { file = f.name; code = PJST0006; place = i.place }))
+      → Remains sources (f ∷ path) done (Err (record { file = f.name; code = PJST0006; place = i.place; opened = so_far (f.name ∷ path_names path) done }))
   import_circles f i is path done h on =
-      stops f path done (record { file = f.name; code = PJST0006; place = i.place })
-      (subst (λ (ls : List Import). Takes sources f.name (path_names path) ls done (Err (record { file = f.name; code = PJST0006; place = i.place }))) (sym h)
+      stops f path done (record { file = f.name; code = PJST0006; place = i.place; opened = so_far (f.name ∷ path_names path) done })
+      (subst (λ (ls : List Import). Takes sources f.name (path_names path) ls done (Err (record { file = f.name; code = PJST0006; place = i.place; opened = so_far (f.name ∷ path_names path) done }))) (sym h)
       (circle f.name (path_names path) i is done on))
 
   pub import_overflows : (f : UnderWay T) (i : Import) (is : List Import) (path : List (UnderWay T)) (done : Files T) → f.left ≡ i ∷ is
       → has_name i.name (f.name ∷ path_names path) ≡ false → has_name i.name (names_of done) ≡ false
       → most_files ≤ length (f.name ∷ path_names path) + length done
-      → Remains sources (f ∷ path) done (Err (record { file = f.name; code = PJST0008; place = i.place }))
+      → Remains sources (f ∷ path) done (Err (record { file = f.name; code = PJST0008; place = i.place; opened = so_far (f.name ∷ path_names path) done }))
   import_overflows f i is path done h off new most =
-      stops f path done (record { file = f.name; code = PJST0008; place = i.place })
-      (subst (λ (ls : List Import). Takes sources f.name (path_names path) ls done (Err (record { file = f.name; code = PJST0008; place = i.place }))) (sym h)
+      stops f path done (record { file = f.name; code = PJST0008; place = i.place; opened = so_far (f.name ∷ path_names path) done })
+      (subst (λ (ls : List Import). Takes sources f.name (path_names path) ls done (Err (record { file = f.name; code = PJST0008; place = i.place; opened = so_far (f.name ∷ path_names path) done }))) (sym h)
       (full f.name (path_names path) i is done (record { off = off; open_ = new }) most))
 
 -- ---- of the code
@@ -106,6 +106,14 @@ left_is old rest file i n =
     drop_more file.source.imports.items file.taken i n.within
     ∙ ap (λ (j : Import). j ∷ drop (file.taken + 1) file.source.imports.items) (sym n.next)
 
+-- so many files were opened
+counted : {T : Type 0} (rest ds : List (File T)) (file : File T) (n : ℕ) → n ≡ length rest + length ds + 1
+    → so_far (file.name ∷ path_names (turned rest)) (files_of ds) ≡ n
+counted rest ds file n is =
+    let deep : length (path_names (turned rest)) ≡ length rest = path_length rest in
+    let wide : length (files_of ds) ≡ length ds = length-map ds done_file in
+    omega (arith, deep, wide, is)
+
 module _ {T : Type 0} (sources : Sources T) (old rest ds : List (File T)) (file : File T) where
   pub code_done : (new : List (File T)) (end_ : Result (Files T) Refusal) → old ≡ rest ++ file ∷ [] → length file.source.imports.items ≤ file.taken
       → new ≡ ds ++ file ∷ [] → Remains sources (turned rest) (files_of new) end_ → Remains sources (turned old) (files_of ds) end_
@@ -126,27 +134,33 @@ module _ {T : Type 0} (sources : Sources T) (old rest ds : List (File T)) (file 
       (subst (λ (us : List (UnderWay T)). Remains sources us (files_of ds) end_)
       (top_first new rest next e ∙ ap (λ (f : File T). under_way f ∷ turned rest) step) m))
 
-  pub code_circle : (i : Import) (r : Refused) → IsNext old rest file i → r ≡ record { file = file.name; code = PJST0006; place = i.place }
+  pub code_circle : (i : Import) (r : Refused) (n : ℕ) → n ≡ length rest + length ds + 1 → IsNext old rest file i
+      → r ≡ record { file = file.name; code = PJST0006; place = i.place; opened = n }
       → (bytes_eq i.name file.name || has_name i.name (file_names rest)) ≡ true
       → Remains sources (turned old) (files_of ds) (Err (refusal_of r))
-  code_circle i r n told on =
+  code_circle i r m count n told on =
       subst (λ (us : List (UnderWay T)). Remains sources us (files_of ds) (Err (refusal_of r))) (sym (top_first old rest file n.top))
       (subst (λ (q : Refused). Remains sources (under_way file ∷ turned rest) (files_of ds) (Err (refusal_of q))) (sym told)
+      (subst (λ (k : ℕ). Remains sources (under_way file ∷ turned rest) (files_of ds) (Err (record { file = file.name; code = PJST0006; place = i.place; opened = k })))
+      (counted rest ds file m count)
       (import_circles sources (under_way file) i (drop (file.taken + 1) file.source.imports.items) (turned rest) (files_of ds)
-      (left_is old rest file i n) (ap (λ (b : Bool). bytes_eq i.name file.name || b) (turned_names i.name rest) ∙ on)))
+      (left_is old rest file i n) (ap (λ (b : Bool). bytes_eq i.name file.name || b) (turned_names i.name rest) ∙ on))))
 
-  pub code_full : (i : Import) (r : Refused) → IsNext old rest file i → r ≡ record { file = file.name; code = PJST0008; place = i.place }
+  pub code_full : (i : Import) (r : Refused) (n : ℕ) → n ≡ length rest + length ds + 1 → IsNext old rest file i
+      → r ≡ record { file = file.name; code = PJST0008; place = i.place; opened = n }
       → bytes_eq i.name file.name ≡ false → has_name i.name (file_names rest) ≡ false → has_name i.name (file_names ds) ≡ false
       → 64 ≤ length rest + length ds + 1
       → Remains sources (turned old) (files_of ds) (Err (refusal_of r))
-  code_full i r n told own far new most =
+  code_full i r m count n told own far new most =
       let deep : length (path_names (turned rest)) ≡ length rest = path_length rest in
       let wide : length (files_of ds) ≡ length ds = length-map ds done_file in
       subst (λ (us : List (UnderWay T)). Remains sources us (files_of ds) (Err (refusal_of r))) (sym (top_first old rest file n.top))
       (subst (λ (q : Refused). Remains sources (under_way file ∷ turned rest) (files_of ds) (Err (refusal_of q))) (sym told)
+      (subst (λ (k : ℕ). Remains sources (under_way file ∷ turned rest) (files_of ds) (Err (record { file = file.name; code = PJST0008; place = i.place; opened = k })))
+      (counted rest ds file m count)
       (import_overflows sources (under_way file) i (drop (file.taken + 1) file.source.imports.items) (turned rest) (files_of ds)
       (left_is old rest file i n) (or_none (bytes_eq i.name file.name) (has_name i.name (path_names (turned rest))) own (turned_names i.name rest ∙ far))
-      (done_names i.name ds ∙ new) (omega arith)))
+      (done_names i.name ds ∙ new) (omega arith))))
 
 pub code_asks : {T : Type 0} (old rest ds : List (File T)) (file : File T) (i : Import) (next : File T) (new : List (File T)) → IsNext old rest file i
     → next ≡ record file { taken = file.taken + 1 } → new ≡ rest ++ next ∷ []
@@ -175,20 +189,43 @@ code_asks {T} old rest ds file i next new n step e own far none_ room =
       };
     }
 
+-- how many files there are
+pub count_files : {T : Type 0} (s : State T) → length (files_in s) ≡ length s.done + length s.path
+count_files s = length-append s.done (map (λ f. (f.name, f.source)) s.path) ∙ ap (λ n. length s.done + n) (length-map s.path (λ f. (f.name, f.source)))
+
+-- so many files the code has
+pub count_code : {T : Type 0} (path done : List (File T)) (n : ℕ) → n ≡ length path + length done
+    → n ≡ length (files_in (record { path = turned path; done = files_of done }))
+count_code path done n is =
+    let all : length (files_in (record { path = turned path; done = files_of done })) ≡ length (files_of done) + length (turned path) =
+    count_files (record { path = turned path; done = files_of done }) in
+    let deep : length (turned path) ≡ length path = length-reverse (map under_way path) ∙ length-map path under_way in
+    let wide : length (files_of done) ≡ length done = length-map done done_file in
+    omega (arith, all, deep, wide, is)
+
 -- the innermost file is refused, and stays where it was
-pub refuses_first : {T : Type 0} (old rest : List (File T)) (file : File T) (r : Refused) (s : State T) → old ≡ rest ++ file ∷ []
-    → (code : Code) (place : ℕ) → r ≡ record { file = file.name; code = code; place = place } → (code ≡ PJST0006) ⊎ (code ≡ PJST0008)
-    → s.path ≡ turned (rest ++ file ∷ []) → RefusesInnermost s r
-refuses_first old rest file r s e code place told one back = record {
+pub refuses_first : {T : Type 0} (old rest : List (File T)) (file : File T) (r : Refused) (s : State T) (ds : List (File T)) → old ≡ rest ++ file ∷ []
+    → (code : Code) (place n : ℕ) → n ≡ length rest + length ds + 1 → r ≡ record { file = file.name; code = code; place = place; opened = n } → (code ≡ PJST0006) ⊎ (code ≡ PJST0008)
+    → s.path ≡ turned (rest ++ file ∷ []) → s.done ≡ files_of ds → RefusesInnermost s r
+refuses_first old rest file r s ds e code place n count told one back same_done = record {
   inner = under_way file;
   outer = turned rest;
   path = back ∙ top_first (rest ++ file ∷ []) rest file refl;
   file = ap (λ (q : Refused). q.file) told;
   code = by one;
+  opened = ap (λ (q : Refused). q.opened) told ∙ many;
 }
   where
     same : r.code ≡ code
     same = ap (λ (q : Refused). q.code) told
+
+    many : n ≡ length (files_in s)
+    many =
+        let all : length (files_in s) ≡ length s.done + length s.path = count_files s in
+        let deep : length s.path ≡ length (rest ++ file ∷ []) = ap length back ∙ length-reverse (map under_way (rest ++ file ∷ [])) ∙ length-map (rest ++ file ∷ []) under_way in
+        let longer : length (rest ++ file ∷ []) ≡ length rest + 1 = length-append rest (file ∷ []) in
+        let wide : length s.done ≡ length ds = ap length same_done ∙ length-map ds done_file in
+        omega (arith, all, deep, longer, wide, count)
 
     by : (code ≡ PJST0006) ⊎ (code ≡ PJST0008) → (r.code ≡ PJST0006) ⊎ (r.code ≡ PJST0008)
     by (inl is) = inl (same ∙ is)

@@ -1,6 +1,5 @@
 -- What loading a query answers.
-use Rattle.std.specs.Prelude.{◌≡◌, ◌≤◌, [], ◌∷◌, map, length, None, Some, Result, Ok, Err}
-use Rattle.outside.specs.Counted.{Rose}
+use Rattle.std.specs.Prelude.{◌≡◌, ◌<◌, ◌≤◌, [], ◌∷◌, map, length, None, Some, Result, Ok, Err}
 use Rattle.outside.specs.Opens.{InputCounts}
 use Rattle.outside.specs.World.{World, LacksName, file_of}
 use Rattle.std.specs.declared.alloc.Global.{Global}
@@ -43,12 +42,12 @@ abbrev pub IsMissing : {T : Type 0} → World → Name → Answered T → Type 0
 IsMissing world query (Err NoQuery) = LacksName world query
 IsMissing world query _ = Unit {0}
 
--- as many files were opened as are answered; with a refusal at least one and at most 64; without a
--- query none
+-- as many files were opened as are answered, and with a refusal as many as it says; without a query
+-- none
 abbrev pub OpensLoaded : {T : Type 0} → Answered T → InputCounts → InputCounts → Type 0
 OpensLoaded (Ok files) before after =
     (length files.items ≤ most_files) × OpenedJust (length files.items) before after
 OpensLoaded (Err (Refused r contents)) before after =
-    Rose before.opened after.opened × OpenedAtMost most_files before after
+    (0 < r.opened) × (r.opened ≤ most_files) × OpenedJust r.opened before after
 OpensLoaded (Err NoQuery) before after = after.opened ≡ before.opened
 OpensLoaded (Err _) before after = OpenedAtMost most_files before after

@@ -11,11 +11,12 @@ use Rattle.module_names.specs.declared.head.Import.{Import}
 abbrev pub Name : Type 0
 Name = List ℕ
 
--- why a file is not loaded, at a place of its own text
+-- why a file is not loaded, at a place of its own text; and how many files were opened until then
 pub record Refusal : Type 0 where
   pub file : Name
   pub code : Code
   pub place : ℕ
+  pub opened : ℕ
 
 -- what a file comes to that is read alone: its imports, and where its body stands if that is not
 -- `()`; whatever else it is, is of type T
@@ -41,8 +42,9 @@ Files T = List (Name × Source T)
 abbrev pub has_name : Name → List Name → Bool
 has_name name list = list_any (bytes_eq name) list
 
-abbrev pub refused : {A : Type 0} → Name → Code → ℕ → Result A Refusal
-refused file code place = Err (record { file = file; code = code; place = place })
+abbrev pub refused : {A : Type 0} → Name → Code → ℕ → ℕ → Result A Refusal
+refused file code place opened =
+    Err (record { file = file; code = code; place = place; opened = opened })
 
 abbrev pub and_then : {A B : Type 0} → Result A Refusal → (A → Result B Refusal)
     → Result B Refusal
@@ -62,6 +64,10 @@ module _ {T : Type 0} where
   abbrev pub names_of : Files T → List Name
   names_of fs = map (λ f. f.0) fs
 
+  -- how many files were opened: those under way, and those that are done
+  abbrev pub so_far : List Name → Files T → ℕ
+  so_far path done = length path + length done
+
   -- the first file of this name
   abbrev pub source_of : Sources T → Name → Option (Result (Source T) Unread)
   source_of [] name = None
@@ -70,14 +76,15 @@ module _ {T : Type 0} where
   -- a library has the body `()`
   abbrev pub library_of : Onward T → Name → List Name → Source T → Option ℕ → Files T
       → Result (Files T) Refusal
-  library_of onward name path source (Some place) done = refused name PJST0009 place
+  library_of onward name path source (Some place) done = refused name PJST0009 place (so_far path done + 1)
   library_of onward name path source None done = onward name path source done
 
   -- a file that an import of another file names, where it is to be loaded
   abbrev pub opened : Onward T → Name → List Name → Import
       → Option (Result (Source T) Unread) → Files T → Result (Files T) Refusal
-  opened onward file path i None done = refused file PJST0007 i.place
-  opened onward file path i (Some (Err u)) done = refused i.name u.code u.place
+  opened onward file path i None done = refused file PJST0007 i.place (so_far (file ∷ path) done)
+  opened onward file path i (Some (Err u)) done =
+      refused i.name u.code u.place (so_far (file ∷ path) done + 1)
   opened onward file path i (Some (Ok source)) done =
       library_of onward i.name (file ∷ path) source source.body done
 
@@ -87,13 +94,14 @@ module _ {T : Type 0} where
     abbrev pub import_one : Onward T → Name → List Name → Import → Files T
         → Result (Files T) Refusal
     import_one onward file path i done =
-        if has_name i.name (file ∷ path) then refused file PJST0006 i.place
+        if has_name i.name (file ∷ path)
+        then refused file PJST0006 i.place (so_far (file ∷ path) done)
         else
         (if has_name i.name (names_of done) then Ok done
         else
-        (if nat_lt (length (file ∷ path) + length done) most_files
+        (if nat_lt (so_far (file ∷ path) done) most_files
         then opened onward file path i (source_of sources i.name) done
-        else refused file PJST0008 i.place))
+        else refused file PJST0008 i.place (so_far (file ∷ path) done)))
 
     -- the imports of a file in order
     abbrev pub import_all : Onward T → Name → List Name → List Import → Files T
@@ -111,7 +119,7 @@ module _ {T : Type 0} where
         (λ fs. Ok (fs ++ (file, source) ∷ []))
 
     abbrev pub loaded_query : Name → Result (Source T) Unread → Result (Files T) Refusal
-    loaded_query query (Err u) = refused query u.code u.place
+    loaded_query query (Err u) = refused query u.code u.place 1
     loaded_query query (Ok source) = load_below most_files query [] source []
 
     -- the files of a query in the order in which they are done, or the first refusal; nothing

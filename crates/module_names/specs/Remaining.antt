@@ -1,5 +1,5 @@
 -- What remains of loading while files are under way.
-use Rattle.std.specs.Prelude.{◌≡◌, ◌⊎◌, ℕ, List, [], ◌∷◌, ◌++◌, map, reverse, drop, Some, None, Result, Ok, Err}
+use Rattle.std.specs.Prelude.{◌≡◌, ◌⊎◌, ◌+◌, ℕ, List, [], ◌∷◌, ◌++◌, length, map, reverse, drop, Some, None, Result, Ok, Err}
 use Rattle.item_tree.specs.declared.code.Code.TheVariants.{PJST0006, PJST0007, PJST0008, PJST0009}
 use Rattle.module_names.specs.declared.head.Import.{Import}
 use Rattle.module_names.specs.declared.order.Source as code
@@ -8,7 +8,7 @@ use Rattle.module_names.specs.declared.order.Loading.{Loading}
 use Rattle.module_names.specs.declared.order.Refused as told
 use Rattle.module_names.specs.declared.order.Step.{Step}
 use Rattle.module_names.specs.declared.order.Step.TheVariants as step
-use Rattle.module_names.specs.Loading.{Name, Refusal, Source, Unread, Sources, Files, refused, source_of, loaded}
+use Rattle.module_names.specs.Loading.{Name, Refusal, Source, Unread, Sources, Files, refused, so_far, source_of, loaded}
 use Rattle.module_names.specs.Rules.{IsWanted, IsLibrary, Takes}
 
 -- a file under way: its name, what it was read as, and its imports that are left
@@ -69,7 +69,8 @@ state_of s = record {
 }
 
 abbrev pub refusal_of : told.Refused → Refusal
-refusal_of r = record { file = r.file; code = r.code; place = r.place }
+refusal_of r =
+    record { file = r.file; code = r.code; place = r.place; opened = r.opened }
 
 -- an import was taken from the innermost file: that file is to be loaded
 pub record Asks {T : Type 0} (old new : State T) (i : Import) : Type 0 where
@@ -98,6 +99,7 @@ pub record RefusesInnermost {T : Type 0} (s : State T) (r : told.Refused) : Type
   pub path : s.path ≡ inner ∷ outer
   pub file : r.file ≡ inner.name
   pub code : (r.code ≡ PJST0006) ⊎ (r.code ≡ PJST0008)
+  pub opened : r.opened ≡ length (files_in s)
 
 abbrev pub IsOfInnermost : {T : Type 0} → State T → Step → Type 0
 IsOfInnermost s (step.Refused r) = RefusesInnermost s r
@@ -113,14 +115,17 @@ pub record AsksAreAnswered (T : Type 0) : Type 0 where
       → Remains sources old.path old.done end_
   pub missing : (sources : Sources T) (old new : State T) (i : Import) (asks : Asks old new i)
       → source_of sources i.name ≡ None
-      → Remains sources old.path old.done (refused asks.file PJST0007 i.place)
+      → Remains sources old.path old.done
+      (refused asks.file PJST0007 i.place (so_far (asks.file ∷ path_names asks.outer) old.done))
   pub unread : (sources : Sources T) (old new : State T) (i : Import) (u : Unread)
-      → Asks old new i → source_of sources i.name ≡ Some (Err u)
-      → Remains sources old.path old.done (refused i.name u.code u.place)
+      (asks : Asks old new i) → source_of sources i.name ≡ Some (Err u)
+      → Remains sources old.path old.done
+      (refused i.name u.code u.place (so_far (asks.file ∷ path_names asks.outer) old.done + 1))
   pub other_body : (sources : Sources T) (old new : State T) (i : Import) (source : Source T)
-      (place : ℕ) → Asks old new i → source_of sources i.name ≡ Some (Ok source)
+      (place : ℕ) (asks : Asks old new i) → source_of sources i.name ≡ Some (Ok source)
       → source.body ≡ Some place
-      → Remains sources old.path old.done (refused i.name PJST0009 place)
+      → Remains sources old.path old.done
+      (refused i.name PJST0009 place (so_far (asks.file ∷ path_names asks.outer) old.done + 1))
   pub begins : (sources : Sources T) (query : Name) (source : Source T)
       (end_ : Result (Files T) Refusal) → source_of sources query ≡ Some (Ok source)
       → Remains sources (begun query source ∷ []) [] end_ → loaded sources query ≡ Some end_

@@ -10,6 +10,7 @@ ghost use Rattle.module_names.specs.Remaining.{State, Asks, state_of, files_in};
 ghost use Rattle.module_names.specs.declared.file_bytes.Kept as kept;
 ghost use Rattle.module_names.specs.inside.Advance.{RefusesTop, StepsTo, StaysHeld, OpensStep, EndsAs, OpensRest};
 
+use crate::order::count_files;
 use crate::wanted::{Found, read_file};
 use crate::{
     Contents, File, Import, Kept, LoadFault, Loading, Refused, Source, Step, Unread, add_library,
@@ -19,11 +20,17 @@ use item_tree::{Code, Str};
 use outside::Inputs;
 use std::alloc::Global;
 
-fn refused(file: Str, code: Code, place: u32, contents: Contents) -> LoadFault
-    ensures { result ≡ LoadFault.Refused (record { file = file; code = code; place = place })
-        contents }
+fn refused(file: Str, code: Code, place: u32, opened: usize, contents: Contents) -> LoadFault
+    ensures { result ≡ LoadFault.Refused
+        (record { file = file; code = code; place = place; opened = opened }) contents }
 {
-    LoadFault::Refused(Refused { file, code, place }, contents)
+    let refused = Refused {
+        file,
+        code,
+        place,
+        opened,
+    };
+    LoadFault::Refused(refused, contents)
 }
 
 fn contents_of<T: Drop>(source: Source<Kept<T>>) -> Contents
@@ -42,8 +49,13 @@ fn contents_of<T: Drop>(source: Source<Kept<T>>) -> Contents
 }
 
 // The innermost file is refused at this place.
-fn refuse_top<T: Drop>(loading: &mut Loading<Kept<T>>, code: Code, place: u32) -> LoadFault
-    ensures { RefusesTop (state_of loading.old).path code place result }
+fn refuse_top<T: Drop>(
+    loading: &mut Loading<Kept<T>>,
+    code: Code,
+    place: u32,
+    opened: usize,
+) -> LoadFault
+    ensures { RefusesTop (state_of loading.old).path code place opened result }
 {
     let Some(file) = loading.path.pop() else {
         return LoadFault::NoMemory;
@@ -53,7 +65,7 @@ fn refuse_top<T: Drop>(loading: &mut Loading<Kept<T>>, code: Code, place: u32) -
         source,
         taken: _taken,
     } = file;
-    refused(name, code, place, contents_of(source))
+    refused(name, code, place, opened, contents_of(source))
 }
 
 // The library of this import, which the innermost file wants, goes under way.
@@ -79,15 +91,17 @@ fn add_wanted<I: Inputs, T: Drop, F: Fn(&str) -> Result<Source<T>, Unread>>(
         (length (files_in (state_of loading.new))) result (I.counts inputs.old)
         (I.counts inputs.new) }
 {
+    let opened = count_files(loading);
     match read_file(alloc, inputs, &import.name, read)? {
-        Found::Missing => Err(refuse_top(loading, Code::PJST0007, import.place)),
+        Found::Missing => Err(refuse_top(loading, Code::PJST0007, import.place, opened)),
         Found::Refused(code, place, contents) => {
-            Err(refused(import.name, code, place, contents))
+            Err(refused(import.name, code, place, opened + 1, contents))
         }
         Found::Read(source) => match source.body {
             Some(place) => {
                 let contents = contents_of(source);
-                Err(refused(import.name, Code::PJST0009, place, contents))
+                let code = Code::PJST0009;
+                Err(refused(import.name, code, place, opened + 1, contents))
             }
             None => Ok(add_library(loading, import.name, source)?),
         },
@@ -119,7 +133,7 @@ fn advance<I: Inputs, T: Drop, F: Fn(&str) -> Result<Source<T>, Unread>>(
     match next_step(loading)? {
         Step::Done => Ok(true),
         Step::Taken => Ok(false),
-        Step::Refused(why) => Err(refuse_top(loading, why.code, why.place)),
+        Step::Refused(why) => Err(refuse_top(loading, why.code, why.place, why.opened)),
         Step::Wanted(import) => {
             add_wanted(alloc, loading, import, inputs, read)?;
             Ok(false)
@@ -181,7 +195,9 @@ pub fn load<I: Inputs, T: Drop, F: Fn(&str) -> Result<Source<T>, Unread> + Copy>
 {
     match read_file(alloc, inputs, name, read)? {
         Found::Missing => Err(LoadFault::NoQuery),
-        Found::Refused(code, place, contents) => Err(refused(name.copy()?, code, place, contents)),
+        Found::Refused(code, place, contents) => {
+            Err(refused(name.copy()?, code, place, 1, contents))
+        }
         Found::Read(source) => {
             let loading = start_loading(alloc, name.copy()?, source)?;
             finish(alloc, loading, inputs, read)

@@ -1,6 +1,6 @@
 //! The order in which files are loaded, import by import.
 
-ghost use Rattle.std.specs.Prelude.{◌≡◌, ◌<◌, ◌+◌, ◌-◌, ◌^◌, ◌∷◌, [], IfOk, OnOk};
+ghost use Rattle.std.specs.Prelude.{◌≡◌, ◌<◌, ◌+◌, ◌-◌, ◌^◌, ◌∷◌, [], length, IfOk, OnOk};
 ghost use Rattle.module_names.specs.Loading.{has_name};
 ghost use Rattle.module_names.specs.Remaining.{IsStep, IsOfInnermost, state_of, files_in, begun, source_view};
 ghost use Rattle.module_names.specs.inside.Order.{file_names, IsRefused};
@@ -29,12 +29,14 @@ pub struct File<T> {
     pub taken: usize,
 }
 
-/// Why a file is not loaded: a code at a place of this file.
+/// Why a file is not loaded: a code at a place of this file; and how many files were opened until
+/// then.
 #[derive(Debug, Drop)]
 pub struct Refused {
     pub file: Str,
     pub code: Code,
     pub place: u32,
+    pub opened: usize,
 }
 
 /// What one step of loading comes to.
@@ -114,8 +116,9 @@ pub fn next_step<T: Drop>(loading: &mut Loading<T>) -> Result<Step, NoMemory>
         return Ok(Step::Taken);
     }
     let import = copy_of(&file.source.imports[file.taken])?;
+    let opened = loading.path.len() + loading.done.len() + 1;
     if import.name == file.name || has_file(&loading.path, &import.name) {
-        let circle = refuse(&file, Code::PJST0006, import.place)?;
+        let circle = refuse(&file, Code::PJST0006, import.place, opened)?;
         loading.path.push(file)?;
         return Ok(Step::Refused(circle));
     }
@@ -123,8 +126,8 @@ pub fn next_step<T: Drop>(loading: &mut Loading<T>) -> Result<Step, NoMemory>
         loading.path.push(after_import(file))?;
         return Ok(Step::Taken);
     }
-    if loading.path.len() + loading.done.len() + 1 >= MOST_FILES {
-        let full = refuse(&file, Code::PJST0008, import.place)?;
+    if opened >= MOST_FILES {
+        let full = refuse(&file, Code::PJST0008, import.place, opened)?;
         loading.path.push(file)?;
         return Ok(Step::Refused(full));
     }
@@ -158,11 +161,23 @@ fn after_import<T>(file: File<T>) -> File<T>
     }
 }
 
-fn refuse<T>(file: &File<T>, code: Code, place: u32) -> Result<Refused, NoMemory>
-    ensures { IfOk result (λ r. IsRefused file.now.name code place r) }
+/// How many files were read: those under way, and those that are done.
+pub(crate) fn count_files<T>(loading: &Loading<T>) -> usize
+    ensures { result ≡ length (files_in (state_of loading.now)) }
+{
+    loading.path.len() + loading.done.len()
+}
+
+fn refuse<T>(file: &File<T>, code: Code, place: u32, opened: usize) -> Result<Refused, NoMemory>
+    ensures { IfOk result (λ r. IsRefused file.now.name code place opened r) }
 {
     let file = file.name.copy()?;
-    Ok(Refused { file, code, place })
+    Ok(Refused {
+        file,
+        code,
+        place,
+        opened,
+    })
 }
 
 // Whether one of the files has this name.

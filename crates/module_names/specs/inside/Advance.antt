@@ -12,14 +12,16 @@ use Rattle.module_names.specs.Loading.{Sources, Files, most_files}
 use Rattle.module_names.specs.Remaining.{UnderWay, State, Remains, done_file, refusal_of}
 
 -- the innermost file is refused at this place
-pub record RefusesFile {T : Type 0} (inner : UnderWay (Kept T)) (code : Code) (place : ℕ)
+pub record RefusesFile {T : Type 0} (inner : UnderWay (Kept T)) (code : Code) (place opened : ℕ)
     (fault : LoadFault) : Type 0 where
-  pub is : fault ≡ Refused (record { file = inner.name; code = code; place = place })
+  pub is : fault
+      ≡ Refused (record { file = inner.name; code = code; place = place; opened = opened })
       inner.source.rest.contents
 
-abbrev pub RefusesTop : {T : Type 0} → List (UnderWay (Kept T)) → Code → ℕ → LoadFault → Type 0
-RefusesTop [] code place fault = fault ≡ NoMemory
-RefusesTop (inner ∷ outer) code place fault = RefusesFile inner code place fault
+abbrev pub RefusesTop : {T : Type 0} → List (UnderWay (Kept T)) → Code → ℕ → ℕ → LoadFault
+    → Type 0
+RefusesTop [] code place opened fault = fault ≡ NoMemory
+RefusesTop (inner ∷ outer) code place opened fault = RefusesFile inner code place opened fault
 
 -- what remains after is what remained before, or it is this refusal
 abbrev pub StepsTo : {T A : Type 0} → Sources (Kept T) → State (Kept T) → State (Kept T)
@@ -43,6 +45,8 @@ abbrev pub OpensStep : {A : Type 0} → ℕ → ℕ → Result A LoadFault → I
     → Type 0
 OpensStep old new (Ok x) before after =
     (k : ℕ) × (new ≡ old + k) × (new ≤ most_files) × OpenedJust k before after
+OpensStep old new (Err (Refused r contents)) before after =
+    (k : ℕ) × (r.opened ≡ old + k) × (r.opened ≤ most_files) × OpenedJust k before after
 OpensStep old new (Err NoQuery) before after = ⊥
 OpensStep old new (Err _) before after =
     (k : ℕ) × (old + k ≤ most_files) × OpenedAtMost k before after
@@ -61,6 +65,8 @@ abbrev pub OpensRest : {T : Type 0} → ℕ → Answered T → InputCounts → I
 OpensRest old (Ok files) before after =
     (k : ℕ) × (length files.items ≡ old + k) × (length files.items ≤ most_files)
     × OpenedJust k before after
+OpensRest old (Err (Refused r contents)) before after =
+    (k : ℕ) × (r.opened ≡ old + k) × (r.opened ≤ most_files) × OpenedJust k before after
 OpensRest old (Err NoQuery) before after = ⊥
 OpensRest old (Err _) before after =
     (k : ℕ) × (old + k ≤ most_files) × OpenedAtMost k before after

@@ -1,7 +1,7 @@
-use Rattle.std.proofs.Common.{length}
+use Rattle.std.proofs.Common.{length, refl}
 use Rattle.std.specs.Fn.{FnReturnsAt}
 use Rattle.module_names.specs.Remaining.{state_of, files_in}
-use Rattle.module_names.proofs.Finishing.{query_unread, query_told, query_held, query_opened, found_then, not_missing}
+use Rattle.module_names.proofs.Finishing.{query_unread, query_told, query_held, query_opened, found_then, not_missing, query_refused}
 use Rattle.module_names.proofs.Stepping.{told_from, told_from_two, told_all, unread_counts}
 use Rattle.module_names.proofs.library_loading.load.Goals as goal
 
@@ -17,6 +17,11 @@ pub returns-in_ok-copy-in-Refused-clause-counts : goal.returns-in_ok-copy-in-Ref
 returns-in_ok-copy-in-Refused-clause-counts g c =
     let counts = rw c.in-Refused.is at c.in_ok-read_file.ensures.counts in
     unread_counts _ (FnReturnsAt g.F.Fn c.args.read) _ c.in-Refused.place _ c.refused.result _ _ c.refused.ensures counts
+
+pub returns-in_ok-copy-in-Refused-clause-opened : goal.returns-in_ok-copy-in-Refused-clause-opened
+returns-in_ok-copy-in-Refused-clause-opened g c =
+    let counts = rw c.in-Refused.is at c.in_ok-read_file.ensures.counts in
+    query_refused g.row.T.Denot _ _ c.refused.result (g.I.Inputs.counts c.args.inputs.now) (g.I.Inputs.counts c.read_file.new.inputs) c.refused.ensures refl counts.opened
 
 pub returns-in_ok-loading-in-Read-clause-told : goal.returns-in_ok-loading-in-Read-clause-told
 returns-in_ok-loading-in-Read-clause-told g c =

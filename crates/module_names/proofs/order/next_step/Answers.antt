@@ -30,15 +30,21 @@ returns-then-eq-clause-step g c = λ sources.
       | then-eq-via-else-eq+then-has_file w ↦ or_second _ _
           (ap (λ (fs : List (File g.row.T.Denot)). has_name c.in_ok-import.import.name (file_names fs)) (sym w.deref.ensures.value) ∙ sym w.has_file.ensures ∙ w.if-has_file.true)
     ] in
+    let deep = c.len-2.ensures ∙ c.pop.new.self.ok.0 in
+    let wide = c.len-3.ensures ∙ c.args.loading.now.done.ok.0 in
+    let count : c.len-2.result + c.len-3.result + 1 ≡ length c.pop.new.self.items + length c.args.loading.now.done.items + 1 = omega (arith, deep, wide) in
     code_circle sources c.args.loading.now.path.items c.pop.new.self.items c.args.loading.now.done.items c.in-Some.file c.in_ok-import.import
-    c.in_ok-circle.circle
+    c.in_ok-circle.circle _ count
     (is_next c.args.loading.now.path.items c.pop.new.self.items c.in-Some.file c.in_ok-import.import c.in-Some.ensures.items lt is)
     c.in_ok-circle.ensures on
 
 pub returns-then-eq-clause-refused : goal.returns-then-eq-clause-refused
 returns-then-eq-clause-refused g c =
+    let deep = c.len-2.ensures ∙ c.pop.new.self.ok.0 in
+    let wide = c.len-3.ensures ∙ c.args.loading.now.done.ok.0 in
+    let count : c.len-2.result + c.len-3.result + 1 ≡ length c.pop.new.self.items + length c.args.loading.now.done.items + 1 = omega (arith, deep, wide) in
     refuses_first c.args.loading.now.path.items c.pop.new.self.items c.in-Some.file c.in_ok-circle.circle (state_of record { path = c.push-then-eq.new.self; done = c.args.loading.now.done })
-    c.in-Some.ensures.items PJST0006 _ c.in_ok-circle.ensures (inl refl) (ap turned c.in_ok-push-2.ensures.items)
+    c.args.loading.now.done.items c.in-Some.ensures.items PJST0006 _ _ count c.in_ok-circle.ensures (inl refl) (ap turned c.in_ok-push-2.ensures.items) refl
 
 pub returns-then-has_file-2-clause-step : goal.returns-then-has_file-2-clause-step
 returns-then-has_file-2-clause-step g c = λ sources end_ m.
@@ -55,8 +61,8 @@ returns-then-has_file-2-clause-step g c = λ sources end_ m.
     (ap (λ (fs : List (File g.row.T.Denot)). has_name c.in_ok-import.import.name (file_names fs)) (sym c.deref-2.ensures.value) ∙ sym c.has_file-2.ensures ∙ c.if-has_file-2.true)
     m
 
-pub returns-then-len-ge-MOST_FILES-clause-step : goal.returns-then-len-ge-MOST_FILES-clause-step
-returns-then-len-ge-MOST_FILES-clause-step g c = λ sources.
+pub returns-then-opened-ge-MOST_FILES-clause-step : goal.returns-then-opened-ge-MOST_FILES-clause-step
+returns-then-opened-ge-MOST_FILES-clause-step g c = λ sources.
     let long = c.len.ensures ∙ c.in-Some.file.source.imports.ok.0 in
     let lt : c.in-Some.file.taken < length c.in-Some.file.source.imports.items = omega arith in
     let is : c.in_ok-import.import ≡ get_or c.in-Some.file.source.imports.items c.in-Some.file.taken c.in_ok-import.import =
@@ -64,19 +70,23 @@ returns-then-len-ge-MOST_FILES-clause-step g c = λ sources.
     ∙ ap (λ (d : Import). get_or c.in-Some.file.source.imports.items c.in-Some.file.taken d) (sym c.in_ok-import.ensures) in
     let deep = c.len-2.ensures ∙ c.pop.new.self.ok.0 in
     let wide = c.len-3.ensures ∙ c.args.loading.now.done.ok.0 in
-    let most : 64 ≤ length c.pop.new.self.items + length c.args.loading.now.done.items + 1 = omega (arith, deep, wide, c.if-len-ge-MOST_FILES.true) in
+    let most : 64 ≤ length c.pop.new.self.items + length c.args.loading.now.done.items + 1 = omega (arith, deep, wide, c.if-opened-ge-MOST_FILES.true) in
+    let count : c.len-2.result + c.len-3.result + 1 ≡ length c.pop.new.self.items + length c.args.loading.now.done.items + 1 = omega (arith, deep, wide) in
     code_full sources c.args.loading.now.path.items c.pop.new.self.items c.args.loading.now.done.items c.in-Some.file c.in_ok-import.import
-    c.in_ok-full.full
+    c.in_ok-full.full _ count
     (is_next c.args.loading.now.path.items c.pop.new.self.items c.in-Some.file c.in_ok-import.import c.in-Some.ensures.items lt is)
     c.in_ok-full.ensures (sym c.eq.ensures ∙ c.if-eq.false)
     (ap (λ (fs : List (File g.row.T.Denot)). has_name c.in_ok-import.import.name (file_names fs)) (sym c.deref.ensures.value) ∙ sym c.has_file.ensures ∙ c.if-has_file.false)
     (ap (λ (fs : List (File g.row.T.Denot)). has_name c.in_ok-import.import.name (file_names fs)) (sym c.deref-2.ensures.value) ∙ sym c.has_file-2.ensures ∙ c.if-has_file-2.false)
     most
 
-pub returns-then-len-ge-MOST_FILES-clause-refused : goal.returns-then-len-ge-MOST_FILES-clause-refused
-returns-then-len-ge-MOST_FILES-clause-refused g c =
-    refuses_first c.args.loading.now.path.items c.pop.new.self.items c.in-Some.file c.in_ok-full.full (state_of record { path = c.push-then-len-ge-MOST_FILES.new.self; done = c.args.loading.now.done })
-    c.in-Some.ensures.items PJST0008 _ c.in_ok-full.ensures (inr refl) (ap turned c.in_ok-push-4.ensures.items)
+pub returns-then-opened-ge-MOST_FILES-clause-refused : goal.returns-then-opened-ge-MOST_FILES-clause-refused
+returns-then-opened-ge-MOST_FILES-clause-refused g c =
+    let deep = c.len-2.ensures ∙ c.pop.new.self.ok.0 in
+    let wide = c.len-3.ensures ∙ c.args.loading.now.done.ok.0 in
+    let count : c.len-2.result + c.len-3.result + 1 ≡ length c.pop.new.self.items + length c.args.loading.now.done.items + 1 = omega (arith, deep, wide) in
+    refuses_first c.args.loading.now.path.items c.pop.new.self.items c.in-Some.file c.in_ok-full.full (state_of record { path = c.push-then-opened-ge-MOST_FILES.new.self; done = c.args.loading.now.done })
+    c.args.loading.now.done.items c.in-Some.ensures.items PJST0008 _ _ count c.in_ok-full.ensures (inr refl) (ap turned c.in_ok-push-4.ensures.items) refl
 
 pub returns-clause-step : goal.returns-clause-step
 returns-clause-step g c =
@@ -87,7 +97,7 @@ returns-clause-step g c =
     ∙ ap (λ (d : Import). get_or c.in-Some.file.source.imports.items c.in-Some.file.taken d) (sym c.in_ok-import.ensures) in
     let deep = c.len-2.ensures ∙ c.pop.new.self.ok.0 in
     let wide = c.len-3.ensures ∙ c.args.loading.now.done.ok.0 in
-    let room : length c.pop.new.self.items + length c.args.loading.now.done.items + 1 < 64 = omega (arith, deep, wide, c.if-len-ge-MOST_FILES.false) in
+    let room : length c.pop.new.self.items + length c.args.loading.now.done.items + 1 < 64 = omega (arith, deep, wide, c.if-opened-ge-MOST_FILES.false) in
     code_asks c.args.loading.now.path.items c.pop.new.self.items c.args.loading.now.done.items c.in-Some.file c.in_ok-import.import
     c.after_import-2.result c.push-2.new.self.items
     (is_next c.args.loading.now.path.items c.pop.new.self.items c.in-Some.file c.in_ok-import.import c.in-Some.ensures.items lt is)
