@@ -100,8 +100,7 @@ fn add_wanted<I: Inputs, T: Drop, F: Fn(&str) -> Result<Source<T>, Unread>>(
         Found::Read(source) => match source.body {
             Some(place) => {
                 let contents = contents_of(source);
-                let code = Code::PJST0009;
-                Err(refused(import.name, code, place, opened + 1, contents))
+                Err(refused(import.name, Code::PJST0009, place, opened + 1, contents))
             }
             None => Ok(add_library(loading, import.name, source)?),
         },
