@@ -1,0 +1,30 @@
+//! Faults, and where they were met.
+
+ghost use Rattle.std.specs.Prelude.{◌≡◌};
+ghost use Rattle.piece_outcomes.specs.Counting.{marked_fault};
+
+use item_tree::{Fault, Spot};
+
+/// A fault as it was raised, the step that it leaves, and the tuple there, from 1.
+#[derive(Clone, Copy, Debug, PartialEq, Eq)]
+pub struct MetFault {
+    pub step: u32,
+    pub tuple: u64,
+    pub fault: Fault,
+}
+
+impl MetFault {
+    /// The fault, which names the step that it left, as a clause, and the tuple.
+    pub fn marked(self) -> Fault
+        ensures { result ≡ marked_fault self }
+    {
+        let spot = Spot {
+            clause: self.step,
+            tuple: self.tuple,
+        };
+        Fault {
+            spot: Some(spot),
+            ..self.fault
+        }
+    }
+}
