@@ -1,6 +1,8 @@
 -- Faults with the place where they were met, and numbers of tuples that steps took in.
-use Rattle.std.specs.Prelude.{ℕ, ◌-◌, nat_lt, if◌then◌else◌, get_or, List, [], Option, Some, None}
+use Rattle.std.specs.Prelude.{◌≡◌, ℕ, ◌+◌, ◌-◌, ◌==◌, nat_lt, if◌then◌else◌, get_or, length, List, [], Option, Some, None}
+use Rattle.item_tree.specs.declared.code.Code.TheVariants.{XPTY0004}
 use Rattle.item_tree.specs.declared.fault.Fault.{Fault}
+use Rattle.item_tree.specs.Faults.{fault_at}
 use Rattle.stage_laws.specs.Runs.{Met}
 use Rattle.piece_outcomes.specs.declared.met.MetFault.{MetFault}
 use Rattle.piece_outcomes.specs.declared.counts.Counts.{Counts}
@@ -44,3 +46,27 @@ order_step_of order.Clean = None
 
 abbrev pub order_told_step : {W : Type 0} → OrderCounted W → Option ℕ
 order_told_step out = order_step_of out.outcome
+
+-- ---- as pieces are put together
+
+-- one past the last of these steps
+abbrev pub past : Counts → ℕ
+past counts = counts.first + length counts.taken.items
+
+-- a step takes in so many more, and the others as many as before
+abbrev pub TakesMore : (step more : ℕ) → Counts → Counts → Type 0
+TakesMore step more before after =
+    (c : ℕ) → taken_by after c
+    ≡ (if c == step then taken_by before c + more else taken_by before c)
+
+-- the fault at a tuple before which so many tuples more stand, by the step that it leaves
+abbrev pub moved_on : (ℕ → ℕ) → MetFault → MetFault
+moved_on counts m = record m { tuple = counts m.step + m.tuple }
+
+-- the fault of the keys of the tuple of this number, which clash in this column
+abbrev pub clash_met : (step : ℕ) → (places : List ℕ) → (tuple column : ℕ) → MetFault
+clash_met step places tuple column = record {
+  step = step;
+  tuple = tuple;
+  fault = fault_at XPTY0004 (get_or places column 0);
+}

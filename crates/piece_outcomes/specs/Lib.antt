@@ -1,2 +1,4 @@
 pub mod Came
 pub mod Counting
+pub mod Outcomes
+pub mod Orders

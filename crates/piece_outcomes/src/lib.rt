@@ -3,11 +3,15 @@
 #![tactic(auto)]
 
 mod counts;
+mod items;
 mod kept;
 mod met;
+mod orders;
 mod outcome;
 
 pub use counts::Counts;
+pub use items::gather;
 pub use kept::Kept;
 pub use met::MetFault;
+pub use orders::gather_orders;
 pub use outcome::{Counted, Gathered, OrderCounted, OrderOutcome, Outcome};
