@@ -1,2 +1,3 @@
 mod Gathering
 mod Clashing
+pub mod Reading

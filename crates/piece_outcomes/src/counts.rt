@@ -14,7 +14,7 @@ pub struct Counts {
 }
 
 impl Counts {
-    ghost use Rattle.std.specs.Prelude.{◌≡◌, ◌+◌, ◌<◌, ◌≤◌, ◌==◌, ℕ, length, if◌then◌else◌, IfOk, OnOk};
+    ghost use Rattle.std.specs.Prelude.{◌≡◌, ◌+◌, ◌<◌, ◌≤◌, ◌==◌, ℕ, length, if◌then◌else◌, IfOk, OnOk, OnErr};
     ghost use Rattle.piece_outcomes.specs.Counting.{taken_by, TakesMore};
 
     /// No tuple yet, for so many steps from this number on.
@@ -52,6 +52,7 @@ impl Counts {
         ensures fits { length self.new.taken.items ≡ length self.old.taken.items }
         ensures takes { OnOk result (TakesMore step more self.old self.new) }
         ensures number { IfOk result (λ n. n ≡ taken_by self.new step) }
+        ensures kept { OnErr result (self.new ≡ self.old) }
     {
         let place = (step - self.first) as usize;
         let Some(n) = self.taken[place].checked_add(more) else {
