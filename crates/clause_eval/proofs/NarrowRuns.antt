@@ -20,13 +20,13 @@ use Rattle.stage_laws.specs.Runs.{Met}
 use Rattle.stage_laws.specs.Stages.{into_next}
 use Rattle.stage_laws.specs.Pieces.{Known, known, clear}
 use Rattle.stage_laws.specs.Ends.{ended_by}
-use Rattle.stage_laws.specs.Laws.{IsTrueOf, ClearBelow, Tells, reach}
-use Rattle.stage_laws.specs.Tuples.{Began, opening_known, opening}
+use Rattle.stage_laws.specs.Laws.{IsTrueOf, ClearBelow, Tells, IsCarry, reach}
+use Rattle.stage_laws.specs.Tuples.{Began, RunsThrough, as_told, opening_known, opening}
 use Rattle.stage_laws.proofs.Basics.{eq_true, eq_is, eq_not, picks}
 use Rattle.stage_laws.proofs.Steps.{LeftAt, each_splits}
 use Rattle.stage_laws.proofs.Tuples.{tuples_tell}
 use Rattle.clause_eval.specs.OneByOne.{tuples_at}
-use Rattle.clause_eval.specs.Carrying.{Came, nothing_came, Seen, follow, items_out, returned, last_stage, stage_from, steps_of, known_of, counted, TellsAt, IsLast, Carries}
+use Rattle.clause_eval.specs.Carrying.{Came, nothing_came, Seen, follow, StageFor, items_out, returned, last_stage, stage_from, steps_of, known_of, counted, so_far, TellsAt, IsLast, Carries}
 use Rattle.clause_eval.specs.NarrowRuns.{clauses_value, end_value, came_value, marked, CleanBefore, TellsOf, TakesSoMany, Runs}
 use Rattle.clause_eval.specs.declared.progress.Progress.{Progress}
 use Rattle.clause_eval.proofs.Carrying.{Clauses, falls}
@@ -152,28 +152,39 @@ open_case : (last limit : ℕ) (b : Bool) → (limit == last + 1) ≡ b → limi
 open_case last limit true h le = eq_is limit (last + 1) h
 open_case last limit false h le = let ne : limit ≡ last + 1 → ⊥ = eq_not limit (last + 1) h in (refl, omega arith)
 
-module _ (inner : Inner) (number : ℕ) (stream : List Slot) (cs : Clauses) (body : Option BoundTree) (env : Environment) (last limit : ℕ) (is_last : IsLast number cs body last) where
+module _ (inner : Inner) (number : ℕ) (cs : Clauses) (body : Option BoundTree) (env : Environment) (last limit : ℕ) (is_last : IsLast number cs body last) where
+  abbrev steps : StageFor Tuple
+  steps = stage_from inner number (bound_clauses cs) body env
+
+  through : RunsThrough number last nothing_came steps
+  through = (tuples_tell Tuple Tuple Came Seen Fault).through number last nothing_came follow steps (falls inner number cs body env last is_last)
+
   begins : (p : Progress) → limit ≤ last + 1 → known_of p.what ≡ opening_known (limit == last + 1) limit nothing_came → ((c : ℕ) → counted p c ≡ 0) → TellsAt inner env number cs body last [] p
   begins p le w none =
-      let tg : Tells number last (stage_from inner number (bound_clauses cs) body env) [] (opening last limit nothing_came) =
-      ((tuples_tell Tuple Tuple Came Seen Fault).through number last nothing_came follow (stage_from inner number (bound_clauses cs) body env) (falls inner number cs body env last is_last)).begins limit le in
+      let tg : Tells number last steps [] (opening last limit nothing_came) = through.begins limit le in
       record {
-        is = subst (λ (k : Known Came Seen Fault). IsTrueOf last k ((stage_from inner number (bound_clauses cs) body env).run [])) (sym w) tg.is;
+        is = subst (λ (k : Known Came Seen Fault). IsTrueOf last k (steps.run [])) (sym w) tg.is;
         counts = λ c from h. none c ∙ tg.counts c from (subst (λ (k : Known Came Seen Fault). c ≤ reach last k) w h);
       }
 
-  pub carried_runs : (ts : List Tuple) (p q : Progress) → are_narrow (bound_clauses cs) ≡ true → limit ≤ last + 1 → known_of p.what ≡ opening_known (limit == last + 1) limit nothing_came → ((c : ℕ) → counted p c ≡ 0)
-      → Carries inner env number cs body ts p q → Runs inner number stream (bound_clauses cs) body env last limit ts q
-  carried_runs ts p q n le w none d =
-      let s = stage_from inner number (bound_clauses cs) body env in
-      let tg : TellsAt inner env number cs body last ts q = d.tells last is_last [] (begins p le w none) in
-      let began : Began last limit (known_of q.what) = d.began last is_last limit (subst (Began last limit) (sym w) (open_case last limit (limit == last + 1) refl le)) in
-      record {
-        tells = tells_of last limit (known_of q.what) (s.run ts) (came_value inner number stream (bound_clauses cs) body env ts) (came_meant inner number stream (bound_clauses cs) body env ts n) tg.is began;
-        into = λ c from h.
-            let r = reach_clear last c (known_of q.what) (s.run ts) tg.is (λ e k. ((falls inner number cs body env last is_last).steps ts e k).1) h in
-            subst (TakesSoMany (taken_in inner number stream (bound_clauses cs) env c ts)) (sym (tg.counts c from h)) (taken inner number stream cs body env last c ts n is_last from r.1 r.0);
-      }
+  module _ (ts : List Tuple) (p q : Progress) (le : limit ≤ last + 1) (w : known_of p.what ≡ opening_known (limit == last + 1) limit nothing_came) (none : (c : ℕ) → counted p c ≡ 0)
+      (d : Carries inner env number cs body ts p q) where
+    carried_tells : TellsAt inner env number cs body last ts q
+    carried_tells = d.tells last is_last [] (begins p le w none)
+
+    carried_began : Began last limit (known_of q.what)
+    carried_began = d.began last is_last limit (subst (Began last limit) (sym w) (open_case last limit (limit == last + 1) refl le))
+
+    pub carried_ends : IsCarry number last steps ts limit (as_told (so_far q))
+    carried_ends = through.ends limit ts (so_far q) carried_began carried_tells
+
+    pub carried_runs : (stream : List Slot) → are_narrow (bound_clauses cs) ≡ true → Runs inner number stream (bound_clauses cs) body env last limit ts q
+    carried_runs stream n = record {
+      tells = tells_of last limit (known_of q.what) (steps.run ts) (came_value inner number stream (bound_clauses cs) body env ts) (came_meant inner number stream (bound_clauses cs) body env ts n) carried_tells.is carried_began;
+      into = λ c from h.
+          let r = reach_clear last c (known_of q.what) (steps.run ts) carried_tells.is (λ e k. ((falls inner number cs body env last is_last).steps ts e k).1) h in
+          subst (TakesSoMany (taken_in inner number stream (bound_clauses cs) env c ts)) (sym (carried_tells.counts c from h)) (taken inner number stream cs body env last c ts n is_last from r.1 r.0);
+    }
 
 -- ---- tuples, or items
 

@@ -5,24 +5,27 @@ ghost use Rattle.item_tree.specs.Item.{datum, datums};
 ghost use Rattle.query_meaning.specs.Clauses.{with_position, bound_tuple, bound_tuples};
 ghost use Rattle.query_meaning.specs.Outcome.{with_front, each_from};
 ghost use Rattle.query_meaning.specs.inside.Gives.{Gives};
-ghost use Rattle.query_meaning.specs.inside.Views.{items_of};
+ghost use Rattle.query_meaning.specs.inside.Views.{items_of, tuple_of, values_of};
 ghost use Rattle.clause_eval.specs.Frames.{frame_tuple, tuples_of};
 ghost use Rattle.clause_eval.specs.OneByOne.{bound_item};
 
 use crate::checks::typed;
 use crate::results::nothing;
-use crate::tuples::{Frame, frame_again, number_value, pushed, with_slot};
+use crate::tuples::{Frame, frame_again, frame_lent, number_value, pushed, with_slot};
 use item_tree::Item;
 use query_meaning::{EvalFault, Value};
 use query_tree::{Placed, Slot};
 use seq_types::SeqType;
 use std::alloc::Global;
 
-/// What a `for` binds: its variable, the type of that one and the variable of the position.
+/// What a `for` binds.
 #[derive(Clone, Copy)]
-pub(crate) struct Binding<'q> {
+pub struct Binding<'q> {
+    /// Its variable.
     pub variable: &'q Placed<Slot>,
+    /// The type that is declared of the variable.
     pub of: &'q Option<Placed<SeqType>>,
+    /// The variable of the position.
     pub at: &'q Option<Placed<Slot>>,
 }
 
@@ -67,16 +70,15 @@ fn bound_item<'a>(
     alloc: Global,
     by: &Binding<'_>,
     n: u64,
-    x: &Item,
+    x: Item,
     frame: Frame<'a>,
     out: Vec<Frame<'a>>,
 ) -> Result<Vec<Frame<'a>>, EvalFault>
     ensures { Gives tuples_of result (with_front (tuples_of out.entry)
         (bound_item by.now.variable.now by.now.of.now by.now.at.now (frame_tuple frame.entry) n
-        (datum x.now))) }
+        (datum x.entry))) }
 {
-    let value = Value::One(x.copy()?);
-    bound_value(alloc, by, n, value, frame, out)
+    bound_value(alloc, by, n, Value::One(x), frame, out)
 }
 
 // The same, where the tuple is needed again.
@@ -93,7 +95,7 @@ fn bound_copy<'a>(
         by.now.variable.now by.now.of.now by.now.at.now (frame_tuple frame.now) n (datum x.now))) }
 {
     let copy = frame_again(alloc, &frame.slots)?;
-    bound_item(alloc, by, n, x, copy, out)
+    bound_item(alloc, by, n, x.copy()?, copy, out)
 }
 
 // The tuples of these items, from the position 1.
@@ -133,7 +135,7 @@ fn bound_all<'a>(
 {
     let n = others.len() as u64 + 1;
     let out = bound_items(alloc, by, others, &frame, out)?;
-    bound_item(alloc, by, n, last, frame, out)
+    bound_item(alloc, by, n, last.copy()?, frame, out)
 }
 
 // The tuple of no items.
@@ -174,4 +176,30 @@ pub(crate) fn bound_tuples<'a>(
         None => bound_nothing(alloc, by, allowing_empty, frame, out),
         Some((last, others)) => bound_all(alloc, by, others, last, frame, out),
     }
+}
+
+/// The tuples that a `for` makes of the items of a driver, the first of which has this position.
+/// The items are moved into their tuples, and the other slots are lent from the leading tuple.
+pub fn bind_items<'a>(
+    alloc: Global,
+    by: &Binding<'_>,
+    first: u64,
+    items: Vec<Item>,
+    leading: &'a [Value<'a>],
+) -> Result<Vec<Frame<'a>>, EvalFault>
+    ensures { Gives tuples_of result
+        (each_from (bound_item by.now.variable.now by.now.of.now by.now.at.now
+        (tuple_of leading.now)) first (values_of items.entry)) }
+{
+    let count = items.len();
+    let Some(_past) = first.checked_add(count as u64) else {
+        return Err(EvalFault::NoMemory);
+    };
+    let mut out = Vec::with_capacity(alloc, count)?;
+    let mut n = first;
+    for x in items {
+        out = bound_item(alloc, by, n, x, frame_lent(alloc, leading)?, out)?;
+        n += 1;
+    }
+    Ok(out)
 }

@@ -1,7 +1,7 @@
 //! FLWOR expressions: tuples go one by one through narrow clauses, and each other clause takes the
 //! whole list.
 
-ghost use Rattle.std.specs.Prelude.{◌≡◌, ◌+◌, ◌<◌, ◌^◌, [], length};
+ghost use Rattle.std.specs.Prelude.{◌≡◌, ◌+◌, ◌≤◌, length, take, drop};
 ghost use Rattle.query_tree.specs.BoundViews.{bound_tree, bound_clause, bound_clauses};
 ghost use Rattle.query_tree.specs.Scoped.{clause_slots};
 ghost use Rattle.query_meaning.specs.Clauses.{clause_value};
@@ -48,24 +48,29 @@ impl<F: for<'s, 'a> Fn(Global, &BoundExpr, &Env<'s, 'a>) -> Result<Value<'a>, Ev
         }
     }
 
-    // The clauses one behind the other, and `return`: narrow clauses tuple by tuple, and each other
-    // one on the whole list.
-    fn flwor_from<'a>(
+    /// The clauses behind the first ones, which these tuples have passed, and `return`: narrow
+    /// clauses tuple by tuple, and each other one on the whole list.
+    pub fn flwor_rest<'a>(
         &self,
+        passed: usize,
         clauses: &[BoundClause],
         body: &BoundExpr,
         first: Vec<Frame<'a>>,
         env: &Env<'_, 'a>,
     ) -> Result<Value<'a>, EvalFault>
-        requires count { length clauses.now + 2 < 2 ^ 32 }
+        requires within { passed ≤ length clauses.now }
         requires evaluates { Evaluates env.now.depth (F.pre self.now.inner)
             (F.post self.now.inner) }
-        ensures { Gives items_of result (flwor_from (eval_in env.now) 1 []
-            (bound_clauses clauses.now) (bound_tree body.now) (environment_of env.now)
-            (tuples_of first.entry)) }
+        ensures { Gives items_of result (flwor_from (eval_in env.now) (passed + 1)
+            (clause_slots (bound_clauses (take passed clauses.now)))
+            (bound_clauses (drop passed clauses.now)) (bound_tree body.now)
+            (environment_of env.now) (tuples_of first.entry)) }
     {
+        if clauses.len() + 1 >= u32::MAX as usize {
+            return Err(EvalFault::NoMemory);
+        }
         let mut frames = first;
-        let mut index = 0;
+        let mut index = passed;
         loop {
             let rest = &clauses[index..];
             let count = narrow_count(rest);
@@ -100,11 +105,8 @@ impl<F: for<'s, 'a> Fn(Global, &BoundExpr, &Env<'s, 'a>) -> Result<Value<'a>, Ev
         ensures { Gives items_of result (flwor_value (eval_in env.now)
             (bound_clauses clauses.now) (bound_tree body.now) (environment_of env.now)) }
     {
-        if clauses.len() + 1 >= u32::MAX as usize {
-            return Err(EvalFault::NoMemory);
-        }
         let frame = frame_again(self.alloc, env.frame)?;
         let first = pushed(Vec::new(self.alloc), frame)?;
-        self.flwor_from(clauses, body, first, env)
+        self.flwor_rest(0, clauses, body, first, env)
     }
 }

@@ -2,6 +2,8 @@
 
 ghost use Rattle.std.specs.Prelude.{◌≡◌, ◌+◌, ◌++◌, ◌∷◌, [], Ok, length, IfOk};
 ghost use Rattle.item_tree.specs.Laws.{IsKey};
+ghost use Rattle.group_table.specs.Groups.{group_rows};
+ghost use Rattle.query_tree.specs.Bindings.{numbers_of};
 ghost use Rattle.query_tree.specs.BoundViews.{bound_clauses, bound_group_var, bound_group_vars};
 ghost use Rattle.query_tree.specs.Scoped.{clause_slots};
 ghost use Rattle.tuple_rows.specs.Keys.{key_datum, key_list, AllKeys};
@@ -148,9 +150,9 @@ impl<F: for<'s, 'a> Fn(Global, &BoundExpr, &Env<'s, 'a>) -> Result<Value<'a>, Ev
         Ok(entry)
     }
 
-    // The keys of a tuple, and the tuple in which their variables have their values.
+    /// The keys of a tuple, and the tuple in which their variables have their values.
     #[tactic(auto, using(crate::proofs::Keyed::keys_whole))]
-    fn group_keys<'a>(
+    pub fn group_keys<'a>(
         &self,
         keys: &[GroupVar<Slot, BoundExpr>],
         frame: Frame<'a>,
@@ -214,7 +216,7 @@ impl<F: for<'s, 'a> Fn(Global, &BoundExpr, &Env<'s, 'a>) -> Result<Value<'a>, Ev
     }
 
     /// `group by`, behind these clauses.
-    #[tactic(auto, unfolding(query_meaning::specs::Groups::group_tuples, query_meaning::specs::inside::Views::environment_of))]
+    #[tactic(auto, unfolding(query_meaning::specs::Groups::group_tuples))]
     pub(crate) fn group<'a>(
         &self,
         number: u32,
@@ -229,6 +231,23 @@ impl<F: for<'s, 'a> Fn(Global, &BoundExpr, &Env<'s, 'a>) -> Result<Value<'a>, Ev
             (environment_of env.now) (tuples_of frames.entry)) }
     {
         let entries = self.keyed_tuples(number, keys, frames, env)?;
+        self.group_rows(before, keys, entries, env)
+    }
+
+    /// The groups of tuples with their keys, behind these clauses.
+    #[tactic(auto, unfolding(query_meaning::specs::inside::Views::environment_of))]
+    pub fn group_rows<'a>(
+        &self,
+        before: &[BoundClause],
+        keys: &[GroupVar<Slot, BoundExpr>],
+        entries: Vec<(Vec<Option<Item>>, Frame<'a>)>,
+        env: &Env<'_, 'a>,
+    ) -> Result<Vec<Frame<'a>>, EvalFault>
+        requires { AllHaveKeys (length keys.now) entries.items }
+        ensures { Gives tuples_of result (Ok (group_rows (length (environment_of env.now).frame)
+            (numbers_of (slots_of (bound_group_vars keys.now)))
+            (numbers_of (clause_slots (bound_clauses before.now))) (entries_of entries.entry))) }
+    {
         let stream = clause_slots(self.alloc, before)?;
         let joined = numbers_of(self.alloc, stream.as_slice())?;
         let slots = slots_of(self.alloc, keys)?;

@@ -22,11 +22,14 @@ mod tuples;
 mod variables;
 mod waiting;
 
+pub use bindings::{Binding, bind_items};
 pub use checks::typed;
 pub use clauses::BoundClause;
 pub use evaluator::Evaluator;
 pub use frames::{again, new_frame, written};
 pub use items::{added, pushed, with_copies};
+pub use order::{clash, column_places, ordered_rows};
+pub use progress::{Counts, MetFault, Progress, Told};
 pub use results::{nothing, one_truth, optional_item, optional_truth, truth_value};
-pub use tuples::{Frame, frame_again, number_value, with_slot};
+pub use tuples::{Frame, frame_again, frame_lent, number_value, numbered_rows, with_slot};
 pub use variables::var;

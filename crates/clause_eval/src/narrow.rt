@@ -9,7 +9,9 @@ ghost use Rattle.query_meaning.specs.inside.Evaluates.{Evaluates};
 ghost use Rattle.query_meaning.specs.inside.Gives.{Gives};
 ghost use Rattle.query_meaning.specs.inside.Views.{items_of, environment_of, eval_in};
 ghost use Rattle.clause_eval.specs.Frames.{tuples_of};
-ghost use Rattle.clause_eval.specs.Carrying.{body_tree, steps_of, IsLast};
+ghost use Rattle.stage_laws.specs.Laws.{IsCarry};
+ghost use Rattle.stage_laws.specs.Tuples.{as_told};
+ghost use Rattle.clause_eval.specs.Carrying.{body_tree, stage_from, steps_of, so_far, IsLast};
 ghost use Rattle.clause_eval.specs.NarrowRuns.{came_of, came_value, clauses_value, Runs};
 
 use crate::clauses::BoundClause;
@@ -68,8 +70,10 @@ fn past(number: u32, clauses: &[BoundClause], body: Option<&BoundExpr>) -> u32
 impl<F: for<'s, 'a> Fn(Global, &BoundExpr, &Env<'s, 'a>) -> Result<Value<'a>, EvalFault>> Evaluator<
     F,
 > {
-    /// Runs the clauses below a limit on tuples.
-    pub(crate) fn run_narrow<'a>(
+    /// Runs the clauses below a limit on tuples, and `return`, if it is there: it is the step behind
+    /// the last clause. A limit one past the last step runs all of them. After a fault only the
+    /// clauses before it go on, since their faults go first.
+    pub fn run_narrow<'a>(
         &self,
         number: u32,
         clauses: &[BoundClause],
@@ -83,11 +87,19 @@ impl<F: for<'s, 'a> Fn(Global, &BoundExpr, &Env<'s, 'a>) -> Result<Value<'a>, Ev
         requires are_narrow { are_narrow (bound_clauses clauses.now) ≡ true }
         requires evaluates { Evaluates env.now.depth (F.pre self.now.inner)
             (F.post self.now.inner) }
-        ensures { IfOk result (λ p. (last : ℕ)
+        ensures runs { IfOk result (λ p. (last : ℕ)
             → IsLast number clauses.now (body_tree body.entry) last
             → (stream : List Slot) → Runs (eval_in env.now) number stream
             (bound_clauses clauses.now) (body_tree body.entry) (environment_of env.now) last limit
             (tuples_of frames.entry) p) }
+        ensures carry { IfOk result (λ p. (last : ℕ)
+            → IsLast number clauses.now (body_tree body.entry) last
+            → IsCarry number last (stage_from (eval_in env.now) number (bound_clauses clauses.now)
+            (body_tree body.entry) (environment_of env.now)) (tuples_of frames.entry) limit
+            (as_told (so_far p))) }
+        ensures first { IfOk result (λ p. p.into.first ≡ number) }
+        ensures counts { IfOk result (λ p. length p.into.taken.items
+            ≡ length clauses.now + steps_of (body_tree body.entry) + 1) }
     {
         let full = past(number, clauses, body);
         let mut progress = opening(self.alloc, number, full, limit)?;

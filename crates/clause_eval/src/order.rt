@@ -12,7 +12,7 @@ ghost use Rattle.query_meaning.specs.Outcome.{with_front, at_tuple};
 ghost use Rattle.query_meaning.specs.inside.Evaluates.{Evaluates};
 ghost use Rattle.query_meaning.specs.inside.Gives.{Gives};
 ghost use Rattle.query_meaning.specs.inside.Views.{environment_of, eval_in};
-ghost use Rattle.clause_eval.specs.Frames.{frame_tuple, tuples_of, keyed_list};
+ghost use Rattle.clause_eval.specs.Frames.{frame_tuple, tuples_of, keyed_list, entries_of};
 ghost use Rattle.clause_eval.specs.Ordering.{order_key, keyed_at, clashing_column, IsSorting};
 
 use crate::clauses::at_frame;
@@ -70,6 +70,17 @@ fn column_place(keys: &[OrderKey<BoundExpr>], column: u32) -> u32
     0
 }
 
+/// The places of all columns, in order.
+pub fn column_places(alloc: Global, keys: &[OrderKey<BoundExpr>]) -> Result<Vec<u32>, EvalFault>
+    ensures { Gives (λ v. v.items) result (Ok (column_places (bound_order_keys keys.now))) }
+{
+    let mut places = Vec::with_capacity(alloc, keys.len())?;
+    for key in keys {
+        places.push(first_place(&key.value))?;
+    }
+    Ok(places)
+}
+
 fn column_of(clash: Option<(u64, u32)>) -> Option<u32>
     ensures { result ≡ clashing_column clash }
 {
@@ -79,8 +90,8 @@ fn column_of(clash: Option<(u64, u32)>) -> Option<u32>
     }
 }
 
-// The first column in which these keys clash with keys before them.
-fn clash(alloc: Global, keys: &[Option<Item>], before: &ClassSeen) -> Result<Option<u32>, EvalFault>
+/// The first column in which these keys clash in class with keys before them.
+pub fn clash(alloc: Global, keys: &[Option<Item>], before: &ClassSeen) -> Result<Option<u32>, EvalFault>
     requires { length before.now.columns ≡ length keys.now }
     ensures { (B : List KeyList) → SeenStandsFor before.now B
         → Gives (λ o. o) result (Ok (clash_column B (key_data keys.now))) }
@@ -140,6 +151,20 @@ fn frames_of<'a>(
     Ok(frames)
 }
 
+/// The tuples in the order of their keys, with ties in place.
+pub fn ordered_rows<'a>(
+    alloc: Global,
+    keys: &[OrderKey<BoundExpr>],
+    entries: Vec<(Vec<Option<Item>>, Frame<'a>)>,
+) -> Result<Vec<Frame<'a>>, EvalFault>
+    ensures { Gives tuples_of result (Ok (rows
+        (sorted (columns_of (bound_order_keys keys.now)) (entries_of entries.entry)))) }
+{
+    let columns = columns_of(alloc, keys)?;
+    let entries = sorted_entries(columns.as_slice(), entries)?;
+    frames_of(alloc, entries)
+}
+
 impl<F: for<'s, 'a> Fn(Global, &BoundExpr, &Env<'s, 'a>) -> Result<Value<'a>, EvalFault>> Evaluator<
     F,
 > {
@@ -147,31 +172,34 @@ impl<F: for<'s, 'a> Fn(Global, &BoundExpr, &Env<'s, 'a>) -> Result<Value<'a>, Ev
     fn order_key(
         &self,
         key: &OrderKey<BoundExpr>,
+        frame: &Frame<'_>,
         env: &Env<'_, '_>,
     ) -> Result<Option<Item>, EvalFault>
         requires { Evaluates env.now.depth (F.pre self.now.inner) (F.post self.now.inner) }
-        ensures { Gives key_datum result (order_key (eval_in env.now)
-            (bound_order_key key.now) (environment_of env.now)) }
+        ensures { Gives key_datum result (order_key (eval_in env.now) (bound_order_key key.now)
+            (in_tuple (environment_of env.now) (frame_tuple frame.now))) }
     {
-        let value = self.of(&key.value, env)?;
+        let value = self.of(&key.value, &at_frame(env, frame))?;
         key_of(first_place(&key.value), value.items())
     }
 
-    // The keys of a tuple.
+    /// The keys of a tuple, which are not compared with others.
     #[tactic(auto, using(crate::proofs::Ordered::front_key))]
-    fn order_keys(
+    pub fn order_keys(
         &self,
         keys: &[OrderKey<BoundExpr>],
+        frame: &Frame<'_>,
         env: &Env<'_, '_>,
     ) -> Result<Vec<Option<Item>>, EvalFault>
         requires { Evaluates env.now.depth (F.pre self.now.inner) (F.post self.now.inner) }
         ensures value { Gives key_list result (order_keys (eval_in env.now)
-            (bound_order_keys keys.now) (environment_of env.now)) }
+            (bound_order_keys keys.now)
+            (in_tuple (environment_of env.now) (frame_tuple frame.now))) }
         ensures count { IfOk result (λ v. length v.items ≡ length keys.now) }
     {
         let mut found = Vec::with_capacity(self.alloc, keys.len())?;
         for key in keys {
-            found.push(self.order_key(key, env)?)?;
+            found.push(self.order_key(key, frame, env)?)?;
         }
         Ok(found)
     }
@@ -182,17 +210,18 @@ impl<F: for<'s, 'a> Fn(Global, &BoundExpr, &Env<'s, 'a>) -> Result<Value<'a>, Ev
         &self,
         keys: &[OrderKey<BoundExpr>],
         before: &ClassSeen,
+        frame: &Frame<'_>,
         env: &Env<'_, '_>,
     ) -> Result<Vec<Option<Item>>, EvalFault>
         requires count { length before.now.columns ≡ length keys.now }
         requires evaluates { Evaluates env.now.depth (F.pre self.now.inner)
             (F.post self.now.inner) }
         ensures value { (B : List KeyList) → SeenStandsFor before.now B
-            → Gives key_list result (compared_keys (eval_in env.now)
-            (bound_order_keys keys.now) B (environment_of env.now)) }
+            → Gives key_list result (compared_keys (eval_in env.now) (bound_order_keys keys.now) B
+            (in_tuple (environment_of env.now) (frame_tuple frame.now))) }
         ensures count { IfOk result (λ v. length v.items ≡ length keys.now) }
     {
-        let found = self.order_keys(keys, env)?;
+        let found = self.order_keys(keys, frame, env)?;
         match clash(self.alloc, found.as_slice(), before)? {
             None => Ok(found),
             Some(column) => {
@@ -221,7 +250,7 @@ impl<F: for<'s, 'a> Fn(Global, &BoundExpr, &Env<'s, 'a>) -> Result<Value<'a>, Ev
             (in_tuple (environment_of env.now) (frame_tuple frame.now)))) }
         ensures count { IfOk result (λ v. length v.items ≡ length keys.now) }
     {
-        match self.compared_keys(keys, before, &at_frame(env, frame)) {
+        match self.compared_keys(keys, before, frame, env) {
             Ok(found) => Ok(found),
             Err(fault) => Err(fault.at_tuple(number, position)),
         }
@@ -293,8 +322,6 @@ impl<F: for<'s, 'a> Fn(Global, &BoundExpr, &Env<'s, 'a>) -> Result<Value<'a>, Ev
             (bound_order_keys keys.now) (environment_of env.now) (tuples_of frames.entry)) }
     {
         let sorting = self.keyed(number, keys, frames, env)?;
-        let columns = columns_of(self.alloc, keys)?;
-        let entries = sorted_entries(columns.as_slice(), sorting.entries)?;
-        frames_of(self.alloc, entries)
+        ordered_rows(self.alloc, keys, sorting.entries)
     }
 }

@@ -23,31 +23,41 @@ pub(crate) enum Given<'a> {
 
 /// A fault as it was raised, the clause that it leaves, and the tuple there, from 1.
 #[derive(Clone, Copy)]
-pub(crate) struct MetFault {
+pub struct MetFault {
+    /// The number of the clause.
     pub step: u32,
+    /// The position of the tuple among those that the clause takes in.
     pub tuple: u64,
+    /// The fault.
     pub fault: Fault,
 }
 
-/// All that came out; the first fault; or that no clause below a limit faults.
+/// What a run of clauses at a limit tells.
 #[derive(Drop)]
-pub(crate) enum Told<'a> {
+pub enum Told<'a> {
+    /// All that came out: tuples, or the items of `return`.
     Whole(Vec<Frame<'a>>, Value<'a>),
+    /// The first fault.
     Met(MetFault),
+    /// No clause below this number faults.
     Clear(u32),
 }
 
 /// How many tuples each of some clauses took in, one behind the other from this number on.
 #[derive(Drop)]
-pub(crate) struct Counts {
+pub struct Counts {
+    /// The number of the first of these clauses.
     pub first: u32,
+    /// How many each took in.
     pub taken: Vec<u64>,
 }
 
 /// What is known of the tuples that came so far.
 #[derive(Drop)]
-pub(crate) struct Progress<'a> {
+pub struct Progress<'a> {
+    /// What came out so far, or a fault.
     pub what: Told<'a>,
+    /// How many tuples each clause took in.
     pub into: Counts,
 }
 

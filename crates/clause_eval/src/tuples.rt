@@ -6,12 +6,14 @@ ghost use Rattle.query_meaning.specs.Environment.{with_value};
 ghost use Rattle.query_meaning.specs.Outcome.{with_front};
 ghost use Rattle.query_meaning.specs.inside.Gives.{Gives};
 ghost use Rattle.query_meaning.specs.inside.Views.{items_of, tuple_of};
+ghost use Rattle.stage_laws.specs.Ends.{numbered_from};
 ghost use Rattle.clause_eval.specs.Frames.{frame_tuple, tuples_of};
+ghost use Rattle.clause_eval.specs.OneByOne.{with_number};
 
 use crate::frames::{again, written};
 use item_tree::{Item, Whole};
 use query_meaning::{EvalFault, Value};
-use query_tree::Slot;
+use query_tree::{Placed, Slot};
 use std::alloc::Global;
 
 /// A tuple: the values of the slots.
@@ -26,6 +28,17 @@ pub fn frame_again<'a>(alloc: Global, frame: &[Value<'a>]) -> Result<Frame<'a>, 
     ensures { Gives frame_tuple result (Ok (tuple_of frame.now)) }
 {
     let slots = again(alloc, frame)?;
+    Ok(Frame { slots })
+}
+
+/// The same tuple, whose values are lent. Nothing is copied, and no count of what is shared changes.
+pub fn frame_lent<'a>(alloc: Global, frame: &'a [Value<'a>]) -> Result<Frame<'a>, EvalFault>
+    ensures { Gives frame_tuple result (Ok (tuple_of frame.now)) }
+{
+    let mut slots = Vec::with_capacity(alloc, frame.len())?;
+    for value in frame {
+        slots.push(Value::Lent(value.items()))?;
+    }
     Ok(Frame { slots })
 }
 
@@ -61,4 +74,23 @@ pub fn number_value<'a>(n: u64) -> Value<'a>
     ensures { items_of result ≡ of_number n }
 {
     Value::One(Item::Int(Whole::new(i128::from(n))))
+}
+
+/// `count`: each tuple with its number, from 1, as the value of a variable.
+pub fn numbered_rows<'a>(
+    alloc: Global,
+    variable: &Placed<Slot>,
+    frames: Vec<Frame<'a>>,
+) -> Result<Vec<Frame<'a>>, EvalFault>
+    ensures { Gives tuples_of result
+        (Ok (numbered_from (with_number variable.now) 1 (tuples_of frames.entry))) }
+{
+    let count = frames.len();
+    let mut out = Vec::with_capacity(alloc, count)?;
+    let mut n = 0;
+    for frame in frames {
+        n += 1;
+        out.push(with_slot(alloc, frame, variable.name, number_value(n))?)?;
+    }
+    Ok(out)
 }

@@ -15,7 +15,7 @@ returns-in-Whole g c = λ stream.
     let last = c.args.number + length cs + steps_of body - 1 in
     let h : IsLast c.args.number cs body last = omega arith in
     (subst (λ (k : Told). TellsOf last c.past-full.result (came_value (eval_in env) c.args.number stream (bound_clauses cs) body (environment_of env) (tuples_of c.args.frames)) (known_of k)) c.in-Whole.is
-    (c.in_ok-progress.ensures last h stream).tells).1
+    (c.in_ok-progress.ensures.runs last h stream).tells).1
 
 pub returns-in-Met : goal.returns-in-Met
 returns-in-Met g c = λ stream.
@@ -24,4 +24,4 @@ returns-in-Met g c = λ stream.
     let h : IsLast c.args.number cs body last = omega arith in
     let meant = came_value (eval_in env) c.args.number stream (bound_clauses cs) body (environment_of env) (tuples_of c.args.frames) in
     subst (λ (f : EvalFault). FailsAs f meant) (sym c.at_tuple.ensures)
-    (subst (λ (k : Told). TellsOf last c.past-full.result meant (known_of k)) c.in-Met.is (c.in_ok-progress.ensures last h stream).tells).1
+    (subst (λ (k : Told). TellsOf last c.past-full.result meant (known_of k)) c.in-Met.is (c.in_ok-progress.ensures.runs last h stream).tells).1

@@ -3,14 +3,24 @@ use Rattle.stage_laws.specs.Tuples.{opening_known}
 use Rattle.query_meaning.specs.inside.Views.{environment_of, eval_in}
 use Rattle.clause_eval.specs.Carrying.{body_tree, steps_of, nothing_came}
 use Rattle.clause_eval.specs.Frames.{tuples_of}
-use Rattle.clause_eval.proofs.NarrowRuns.{carried_runs}
+use Rattle.clause_eval.proofs.NarrowRuns.{carried_runs, carried_ends}
 use Rattle.clause_eval.proofs.evaluator.Evaluator.run_narrow.Goals as goal
 
-pub returns : goal.returns
-returns g c = λ last h stream.
+pub returns-runs : goal.returns-runs
+returns-runs g c = λ last h stream.
     let env = c.args.env.now in let body = body_tree c.args.body in let cs = c.args.clauses.now in
     let full : c.past-full.result ≡ last + 1 = c.past-full.ensures ∙ h in
     let le : c.args.limit ≤ c.args.number + length cs + steps_of body = c.requires.below in
     let e : c.args.number + length cs + steps_of body ≡ last + 1 = h in
-    carried_runs (eval_in env) c.args.number stream cs body (environment_of env) last c.args.limit h (tuples_of c.args.frames) c.in_ok-progress.progress c.carry_all.new.progress c.requires.are_narrow
+    carried_runs (eval_in env) c.args.number cs body (environment_of env) last c.args.limit h (tuples_of c.args.frames) c.in_ok-progress.progress c.carry_all.new.progress
+    (omega arith) (c.in_ok-progress.ensures.what ∙ ap (λ (n : ℕ). opening_known (c.args.limit == n) c.args.limit nothing_came) full) c.in_ok-progress.ensures.none c.in_ok-carry_all.ensures
+    stream c.requires.are_narrow
+
+pub returns-carry : goal.returns-carry
+returns-carry g c = λ last h.
+    let env = c.args.env.now in let body = body_tree c.args.body in let cs = c.args.clauses.now in
+    let full : c.past-full.result ≡ last + 1 = c.past-full.ensures ∙ h in
+    let le : c.args.limit ≤ c.args.number + length cs + steps_of body = c.requires.below in
+    let e : c.args.number + length cs + steps_of body ≡ last + 1 = h in
+    carried_ends (eval_in env) c.args.number cs body (environment_of env) last c.args.limit h (tuples_of c.args.frames) c.in_ok-progress.progress c.carry_all.new.progress
     (omega arith) (c.in_ok-progress.ensures.what ∙ ap (λ (n : ℕ). opening_known (c.args.limit == n) c.args.limit nothing_came) full) c.in_ok-progress.ensures.none c.in_ok-carry_all.ensures

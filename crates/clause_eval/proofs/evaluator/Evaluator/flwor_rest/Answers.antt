@@ -5,7 +5,7 @@ use Rattle.query_meaning.specs.inside.Views.{environment_of, eval_in}
 use Rattle.clause_eval.specs.Frames.{tuples_of}
 use Rattle.clause_eval.proofs.Stages.{flwor_turn}
 use Rattle.clause_eval.proofs.Segments.{segment_fails, segment_goes, clause_fails, end_less}
-use Rattle.clause_eval.proofs.evaluator.Evaluator.flwor_from.Goals as goal
+use Rattle.clause_eval.proofs.evaluator.Evaluator.flwor_rest.Goals as goal
 
 pub returns-in-Err : goal.returns-in-Err
 returns-in-Err g c =
