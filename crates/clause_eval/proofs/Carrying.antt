@@ -20,12 +20,13 @@ use Rattle.stage_laws.proofs.Basics.{le_is, le_not, eq_true, eq_false, picks, pa
 use Rattle.stage_laws.proofs.Steps.{narrow_falls}
 use Rattle.stage_laws.proofs.Ends.{merged_follows}
 use Rattle.stage_laws.proofs.Tuples.{tuples_tell}
+use Rattle.piece_outcomes.specs.Counting.{taken_by}
 use Rattle.clause_eval.specs.OneByOne.{tuples_at}
 use Rattle.clause_eval.specs.Frames.{frame_tuple, frame_tuples}
 use Rattle.clause_eval.specs.declared.tuples.Frame.{Frame}
 use Rattle.clause_eval.specs.declared.progress.Given.{Given}
 use Rattle.clause_eval.specs.declared.progress.Progress.{Progress}
-use Rattle.clause_eval.specs.Carrying.{Came, nothing_came, came_behind, Seen, follow, StageFor, tuples_out, items_out, returned, last_stage, stage_from, steps_of, given_tuples, known_of, taken_by, counted, so_far, is_held, TakesIn, Fell, GoesOrStops, Stepped, with_items, with_tuple, Returns, Returned, TellsAt, IsLast, Carries, CarriesRest}
+use Rattle.clause_eval.specs.Carrying.{Came, nothing_came, came_behind, Seen, follow, StageFor, tuples_out, items_out, returned, last_stage, stage_from, steps_of, given_tuples, known_of, counted, so_far, is_held, TakesIn, Fell, GoesOrStops, Stepped, with_items, with_tuple, Returns, Returned, TellsAt, IsLast, Carries, CarriesRest}
 
 abbrev pub Clauses : Type 0
 Clauses = List (Clause Slot Target SeqType)

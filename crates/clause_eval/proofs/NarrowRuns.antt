@@ -25,9 +25,10 @@ use Rattle.stage_laws.specs.Tuples.{Began, RunsThrough, as_told, opening_known, 
 use Rattle.stage_laws.proofs.Basics.{eq_true, eq_is, eq_not, picks}
 use Rattle.stage_laws.proofs.Steps.{LeftAt, each_splits}
 use Rattle.stage_laws.proofs.Tuples.{tuples_tell}
+use Rattle.piece_outcomes.specs.Counting.{marked}
 use Rattle.clause_eval.specs.OneByOne.{tuples_at}
 use Rattle.clause_eval.specs.Carrying.{Came, nothing_came, Seen, follow, StageFor, items_out, returned, last_stage, stage_from, steps_of, known_of, counted, so_far, TellsAt, IsLast, Carries}
-use Rattle.clause_eval.specs.NarrowRuns.{clauses_value, end_value, came_value, marked, CleanBefore, TellsOf, TakesSoMany, Runs}
+use Rattle.clause_eval.specs.NarrowRuns.{clauses_value, end_value, came_value, CleanBefore, TellsOf, TakesSoMany, Runs}
 use Rattle.clause_eval.specs.declared.progress.Progress.{Progress}
 use Rattle.clause_eval.proofs.Carrying.{Clauses, falls}
 

@@ -1,5 +1,5 @@
 -- Clauses of a FLWOR tuple by tuple: each tuple goes through all of them before the next one does.
-use Rattle.std.specs.Prelude.{◌≡◌, ℕ, ◌+◌, ◌-◌, ◌==◌, ◌<◌, nat_le, nat_lt, Bool, true, false, if◌then◌else◌, get_or, length, List, [], ◌∷◌, ◌++◌, Option, Some, None, Ok, Err}
+use Rattle.std.specs.Prelude.{◌≡◌, ℕ, ◌+◌, ◌==◌, ◌<◌, nat_le, Bool, true, false, if◌then◌else◌, length, List, [], ◌∷◌, ◌++◌, Option, Some, None, Ok, Err}
 use Rattle.std.specs.Borrow.{Bor}
 use Rattle.item_tree.specs.Datum.{Datum}
 use Rattle.item_tree.specs.declared.fault.Fault.{Fault}
@@ -15,20 +15,18 @@ use Rattle.query_tree.specs.Plain.{PlainClauses}
 use Rattle.query_meaning.specs.Outcome.{OrFault}
 use Rattle.query_meaning.specs.Environment.{Tuple, Environment, Inner, in_tuple}
 use Rattle.query_meaning.specs.inside.Views.{items_of}
-use Rattle.stage_laws.specs.Runs.{Met}
 use Rattle.stage_laws.specs.Stages.{Stage, narrow}
 use Rattle.stage_laws.specs.Pieces.{Follow, Known, known, clear, SoFar}
 use Rattle.stage_laws.specs.Ends.{merged}
 use Rattle.stage_laws.specs.Laws.{Tells}
 use Rattle.stage_laws.specs.Tuples.{Began}
+use Rattle.piece_outcomes.specs.Counting.{met_of, taken_by}
 use Rattle.clause_eval.specs.Frames.{frame_tuple, tuples_of}
 use Rattle.clause_eval.specs.OneByOne.{tuples_at}
 use Rattle.clause_eval.specs.declared.progress.Given.{Given}
 use Rattle.clause_eval.specs.declared.progress.Given.TheVariants as given
-use Rattle.clause_eval.specs.declared.progress.MetFault.{MetFault}
 use Rattle.clause_eval.specs.declared.progress.Told.{Told}
 use Rattle.clause_eval.specs.declared.progress.Told.TheVariants as what
-use Rattle.clause_eval.specs.declared.progress.Counts.{Counts}
 use Rattle.clause_eval.specs.declared.progress.Progress.{Progress}
 
 -- what comes out behind the last step: tuples, or the items of `return`
@@ -87,20 +85,13 @@ abbrev pub given_tuples : Given → List Tuple
 given_tuples (given.One f) = frame_tuple f ∷ []
 given_tuples (given.Many fs) = tuples_of fs
 
-abbrev pub met_of : MetFault → Met Seen Fault
-met_of m = record { step = m.step; tuple = m.tuple; fault = m.fault; seen = [] }
-
 abbrev pub known_of : Told → Known Came Seen Fault
 known_of (what.Whole tuples items) =
     known (Ok (record { tuples = tuples_of tuples; items = items_of items }))
 known_of (what.Met m) = known (Err (met_of m))
 known_of (what.Clear l) = clear l
 
--- how many tuples the clause of this number took in; none where it is no clause of these
-abbrev pub taken_by : Counts → ℕ → ℕ
-taken_by counts c =
-    if nat_lt c counts.first then 0 else get_or counts.taken.items (c - counts.first) 0
-
+-- how many tuples the clause of this number took in
 abbrev pub counted : Progress → ℕ → ℕ
 counted p c = taken_by p.into c
 

@@ -17,9 +17,9 @@ use Rattle.query_meaning.specs.Environment.{Tuple, Environment, Inner}
 use Rattle.query_meaning.specs.Clauses.{clause_value}
 use Rattle.query_meaning.specs.Flwors.{with_slots, return_value}
 use Rattle.query_meaning.specs.Pieces.{taken_in, clause_left}
-use Rattle.stage_laws.specs.Runs.{Met}
 use Rattle.stage_laws.specs.Pieces.{Known, known, clear}
 use Rattle.stage_laws.specs.Laws.{reach}
+use Rattle.piece_outcomes.specs.Counting.{marked}
 use Rattle.clause_eval.specs.Carrying.{Came, Seen, known_of, counted}
 use Rattle.clause_eval.specs.declared.progress.Progress.{Progress}
 
@@ -48,10 +48,6 @@ came_value inner number stream (p.more_clauses c cs) body env tuples = do
   came_value inner (number + 1) (with_slots stream c) cs body env next
 
 -- ---- a run at a limit
-
--- the fault that a met fault stands for
-abbrev pub marked : Met Seen Fault → Fault
-marked e = record (e.fault) { spot = Some (record { clause = e.step; tuple = e.tuple }) }
 
 -- no clause before this one faults
 abbrev pub CleanBefore : ℕ → OrFault Came → Type 0

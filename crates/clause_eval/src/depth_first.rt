@@ -15,10 +15,11 @@ ghost use Rattle.clause_eval.specs.Waits.{wait_of, waits_of, waits_at, AllWithin
 use crate::checks::typed;
 use crate::clauses::BoundClause;
 use crate::evaluator::Evaluator;
-use crate::progress::{Given, MetFault, Progress, Told, count, is_held, put_items, put_tuple};
+use crate::progress::{Given, Progress, Told, count, is_held, put_items, put_tuple};
 use crate::tuples::{Frame, with_slot};
 use crate::waiting::{Waiting, with_given, with_left};
 use item_tree::NoMemory;
+use piece_outcomes::MetFault;
 use query_meaning::{Env, EvalFault, Value};
 use query_tree::{BoundExpr, Clause, Placed, Slot};
 use seq_types::SeqType;

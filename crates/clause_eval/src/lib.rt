@@ -29,7 +29,7 @@ pub use evaluator::Evaluator;
 pub use frames::{again, new_frame, written};
 pub use items::{added, pushed, with_copies};
 pub use order::{clash, column_places, ordered_rows};
-pub use progress::{Counts, MetFault, Progress, Told};
+pub use progress::{Progress, Told};
 pub use results::{nothing, one_truth, optional_item, optional_truth, truth_value};
 pub use tuples::{Frame, frame_again, frame_lent, number_value, numbered_rows, with_slot};
 pub use variables::var;

@@ -10,7 +10,8 @@ ghost use Rattle.clause_eval.specs.Carrying.{known_of, counted, is_held, TakesIn
 use crate::items::added;
 use crate::results::nothing;
 use crate::tuples::Frame;
-use item_tree::{Fault, NoMemory};
+use item_tree::NoMemory;
+use piece_outcomes::{Counts, MetFault};
 use query_meaning::{EvalFault, Value};
 use std::alloc::Global;
 
@@ -19,17 +20,6 @@ use std::alloc::Global;
 pub(crate) enum Given<'a> {
     One(Frame<'a>),
     Many(Vec<Frame<'a>>),
-}
-
-/// A fault as it was raised, the clause that it leaves, and the tuple there, from 1.
-#[derive(Clone, Copy)]
-pub struct MetFault {
-    /// The number of the clause.
-    pub step: u32,
-    /// The position of the tuple among those that the clause takes in.
-    pub tuple: u64,
-    /// The fault.
-    pub fault: Fault,
 }
 
 /// What a run of clauses at a limit tells.
@@ -41,15 +31,6 @@ pub enum Told<'a> {
     Met(MetFault),
     /// No clause below this number faults.
     Clear(u32),
-}
-
-/// How many tuples each of some clauses took in, one behind the other from this number on.
-#[derive(Drop)]
-pub struct Counts {
-    /// The number of the first of these clauses.
-    pub first: u32,
-    /// How many each took in.
-    pub taken: Vec<u64>,
 }
 
 /// What is known of the tuples that came so far.
