@@ -178,8 +178,8 @@ pub(crate) fn bound_tuples<'a>(
     }
 }
 
-/// The tuples that a `for` makes of the items of a driver, the first of which has this position.
-/// The items are moved into their tuples, and the other slots are lent from the leading tuple.
+/// The tuples that a `for` makes of items, of which the first has this position. The items are moved
+/// into their tuples, and the other slots are lent from the leading tuple.
 pub fn bind_items<'a>(
     alloc: Global,
     by: &Binding<'_>,

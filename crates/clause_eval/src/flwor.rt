@@ -48,8 +48,8 @@ impl<F: for<'s, 'a> Fn(Global, &BoundExpr, &Env<'s, 'a>) -> Result<Value<'a>, Ev
         }
     }
 
-    /// The clauses behind the first ones, which these tuples have passed, and `return`: narrow
-    /// clauses tuple by tuple, and each other one on the whole list.
+    /// The clauses after the first ones, which these tuples have passed, and `return`: narrow clauses
+    /// tuple by tuple, and each other one on the whole list.
     pub fn flwor_rest<'a>(
         &self,
         passed: usize,

@@ -234,7 +234,7 @@ impl<F: for<'s, 'a> Fn(Global, &BoundExpr, &Env<'s, 'a>) -> Result<Value<'a>, Ev
         self.group_rows(before, keys, entries, env)
     }
 
-    /// The groups of tuples with their keys, behind these clauses.
+    /// The tuples of the groups of these, which have their keys, after these clauses.
     #[tactic(auto, unfolding(query_meaning::specs::inside::Views::environment_of))]
     pub fn group_rows<'a>(
         &self,

@@ -70,9 +70,10 @@ fn past(number: u32, clauses: &[BoundClause], body: Option<&BoundExpr>) -> u32
 impl<F: for<'s, 'a> Fn(Global, &BoundExpr, &Env<'s, 'a>) -> Result<Value<'a>, EvalFault>> Evaluator<
     F,
 > {
-    /// Runs the clauses below a limit on tuples, and `return`, if it is there: it is the step behind
-    /// the last clause. A limit one past the last step runs all of them. After a fault only the
-    /// clauses before it go on, since their faults go first.
+    /// Runs narrow clauses on tuples, and after them `return`, if it is there, as steps with numbers
+    /// from this one on. Only steps below the limit are run, and all where it is one past the last
+    /// step. After a fault only the steps before it go on, since their faults go first. It answers
+    /// only want of memory as an error.
     pub fn run_narrow<'a>(
         &self,
         number: u32,

@@ -76,7 +76,7 @@ pub fn number_value<'a>(n: u64) -> Value<'a>
     Value::One(Item::Int(Whole::new(i128::from(n))))
 }
 
-/// `count`: each tuple with its number, from 1, as the value of a variable.
+/// `count`: each tuple with its number, from 1, in its variable.
 pub fn numbered_rows<'a>(
     alloc: Global,
     variable: &Placed<Slot>,
