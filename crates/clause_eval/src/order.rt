@@ -3,24 +3,25 @@
 ghost use Rattle.std.specs.Prelude.{◌≡◌, ◌++◌, ◌∷◌, [], List, Ok, length, get_or, IfOk};
 ghost use Rattle.query_tree.specs.BoundViews.{bound_tree, bound_order_key, bound_order_keys};
 ghost use Rattle.order_runs.specs.Clashes.{clash_column};
-ghost use Rattle.order_runs.specs.Orders.{sorted, key_lists, rows};
+ghost use Rattle.order_runs.specs.Orders.{key_lists};
 ghost use Rattle.order_runs.specs.Seen.{SeenStandsFor};
 ghost use Rattle.tuple_rows.specs.Keys.{KeyList, key_datum, key_data, key_list};
 ghost use Rattle.query_meaning.specs.Environment.{in_tuple, place_of};
-ghost use Rattle.query_meaning.specs.Orders.{order_keys, columns_of, column_places, compared_keys, keyed_from, order_tuples};
+ghost use Rattle.query_meaning.specs.Orders.{order_keys, column_places, compared_keys, keyed_from, order_tuples};
 ghost use Rattle.query_meaning.specs.Outcome.{with_front, at_tuple};
 ghost use Rattle.query_meaning.specs.inside.Evaluates.{Evaluates};
 ghost use Rattle.query_meaning.specs.inside.Gives.{Gives};
 ghost use Rattle.query_meaning.specs.inside.Views.{environment_of, eval_in};
-ghost use Rattle.clause_eval.specs.Frames.{frame_tuple, tuples_of, keyed_list, entries_of};
+ghost use Rattle.clause_eval.specs.Frames.{frame_tuple, tuples_of, keyed_list};
 ghost use Rattle.clause_eval.specs.Ordering.{order_key, keyed_at, clashing_column, IsSorting};
 
 use crate::clauses::at_frame;
 use crate::evaluator::Evaluator;
 use crate::keys::key_of;
+use crate::sorting::ordered_rows;
 use crate::tuples::Frame;
 use item_tree::{Code, Item};
-use order_runs::{ClassSeen, Column, sort_keyed};
+use order_runs::ClassSeen;
 use query_meaning::{Env, EvalFault, Value};
 use query_tree::{BoundExpr, OrderKey};
 use std::alloc::Global;
@@ -30,22 +31,6 @@ use std::alloc::Global;
 struct Sorting<'a> {
     entries: Vec<(Vec<Option<Item>>, Frame<'a>)>,
     seen: ClassSeen,
-}
-
-// The columns of an order.
-fn columns_of(alloc: Global, keys: &[OrderKey<BoundExpr>]) -> Result<Vec<Column>, EvalFault>
-    ensures { Gives (λ v. v.items) result (Ok (columns_of (bound_order_keys keys.now))) }
-{
-    let mut columns = Vec::with_capacity(alloc, keys.len())?;
-    for key in keys {
-        let descending = key.descending;
-        let empty_greatest = key.empty_greatest;
-        columns.push(Column {
-            descending,
-            empty_greatest,
-        })?;
-    }
-    Ok(columns)
 }
 
 // The place of an expression's first token.
@@ -91,7 +76,11 @@ fn column_of(clash: Option<(u64, u32)>) -> Option<u32>
 }
 
 /// The first column in which these keys clash in class with keys before them.
-pub fn clash(alloc: Global, keys: &[Option<Item>], before: &ClassSeen) -> Result<Option<u32>, EvalFault>
+pub fn clash(
+    alloc: Global,
+    keys: &[Option<Item>],
+    before: &ClassSeen,
+) -> Result<Option<u32>, EvalFault>
     requires { length before.now.columns ≡ length keys.now }
     ensures { (B : List KeyList) → SeenStandsFor before.now B
         → Gives (λ o. o) result (Ok (clash_column B (key_data keys.now))) }
@@ -123,46 +112,6 @@ fn noted<'a>(
     seen.note(keys.as_slice());
     entries.push((keys, frame))?;
     Ok(Sorting { entries, seen })
-}
-
-// The tuples by the columns of their keys, with ties in place.
-fn sorted_entries<'a>(
-    columns: &[Column],
-    entries: Vec<(Vec<Option<Item>>, Frame<'a>)>,
-) -> Result<Vec<(Vec<Option<Item>>, Frame<'a>)>, EvalFault>
-    ensures { Gives (λ v. keyed_list v.items) result
-        (Ok (sorted columns.now (keyed_list entries.entry.items))) }
-{
-    Ok(sort_keyed(columns, entries)?)
-}
-
-// The tuples without their keys.
-fn frames_of<'a>(
-    alloc: Global,
-    entries: Vec<(Vec<Option<Item>>, Frame<'a>)>,
-) -> Result<Vec<Frame<'a>>, EvalFault>
-    ensures { Gives tuples_of result (Ok (rows (keyed_list entries.entry.items))) }
-{
-    let mut frames = Vec::with_capacity(alloc, entries.len())?;
-    for entry in entries {
-        let (_, frame) = entry;
-        frames.push(frame)?;
-    }
-    Ok(frames)
-}
-
-/// The tuples in the order of their keys, with ties in place.
-pub fn ordered_rows<'a>(
-    alloc: Global,
-    keys: &[OrderKey<BoundExpr>],
-    entries: Vec<(Vec<Option<Item>>, Frame<'a>)>,
-) -> Result<Vec<Frame<'a>>, EvalFault>
-    ensures { Gives tuples_of result (Ok (rows
-        (sorted (columns_of (bound_order_keys keys.now)) (entries_of entries.entry)))) }
-{
-    let columns = columns_of(alloc, keys)?;
-    let entries = sorted_entries(columns.as_slice(), entries)?;
-    frames_of(alloc, entries)
 }
 
 impl<F: for<'s, 'a> Fn(Global, &BoundExpr, &Env<'s, 'a>) -> Result<Value<'a>, EvalFault>> Evaluator<

@@ -1,7 +1,7 @@
 use Rattle.std.proofs.Common.{Ok, sym, ap, ◌∙◌}
 use Rattle.clause_eval.specs.Frames.{keyed_list}
 use Rattle.clause_eval.proofs.Ordered.{entries_ordered}
-use Rattle.clause_eval.proofs.order.sorted_entries.Goals as goal
+use Rattle.clause_eval.proofs.sorting.sorted_entries.Goals as goal
 
 pub returns : goal.returns
 returns c =
