@@ -76,7 +76,7 @@ fn bound_item<'a>(
 ) -> Result<Vec<Frame<'a>>, EvalFault>
     ensures { Gives tuples_of result (with_front (tuples_of out.entry)
         (bound_item by.now.variable.now by.now.of.now by.now.at.now (frame_tuple frame.entry) n
-        (datum x.entry))) }
+        (datum x))) }
 {
     bound_value(alloc, by, n, Value::One(x), frame, out)
 }
@@ -190,7 +190,7 @@ pub fn bind_items<'a>(
 ) -> Result<Vec<Frame<'a>>, EvalFault>
     ensures { Gives tuples_of result
         (each_from (bound_item by.now.variable.now by.now.of.now by.now.at.now
-        (tuple_of leading.now)) first (values_of items.entry)) }
+        (tuple_of leading.now)) first (values_of items)) }
 {
     let count = items.len();
     let Some(_past) = first.checked_add(count as u64) else {
