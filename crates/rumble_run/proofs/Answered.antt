@@ -1,19 +1,20 @@
--- A command line has one answer, and opens one list of files.
-use Rattle.std.proofs.Common.{◌≡◌, ℕ, List, [], ◌∷◌, ◌++◌, length, suc, cond, arith, false, Option, None, Some, Result, Ok, Err, refl, sym, ap, ◌∙◌, subst, codes}
+-- A command line has one answer, and looks for one list of files.
+use Rattle.std.proofs.Common.{◌≡◌, ◌+◌, ℕ, List, [], ◌∷◌, ◌++◌, length, suc, cond, arith, false, not, inl, inr, Option, None, Some, Result, Ok, Err, refl, sym, ap, ◌∙◌, subst, codes}
 use Rattle.std.specs.Prelude.{IfSome, is_some}
 use Rattle.std.specs.Str.{encode_utf8_all}
 use Rattle.item_reader.specs.Lines.{without_mark}
 use Rattle.outside.specs.Opens.{InputCounts}
 use Rattle.outside.specs.World.{World, file_of}
-use Rattle.rumble_run.specs.Answer.{Answer, IsAnswer, IsOfQuery, IsOfCommand, IsOfFile, OfAnswer, says, usage}
+use Rattle.rumble_run.specs.Answer.{Answer, AnswersOver, ReadsNoFile, IsAnswer, IsOfQuery, IsOfCommand, IsOfFile, OfAnswer, says, usage}
 use Rattle.rumble_run.specs.Trial.{trial_query, trial_world}
 use Rattle.rumble_run.specs.Commands.{command_of}
-use Rattle.rumble_run.specs.Ends.{OpenedJust, OpenedAtMost, NoCountFalls}
+use Rattle.rumble_run.specs.Ends.{OpenedJust, OpenedAtMost, MissedJust, MissedAtMost, NoCountFalls}
 use Rattle.rumble_run.specs.Front.{Front, IsFront}
-use Rattle.rumble_run.specs.Laws.{HasOneAnswer, OpensOneList}
-use Rattle.rumble_run.specs.Opens.{inputs_opened, OpensOfFile, OpensOfCommand, IsOpened, OfOpened}
+use Rattle.rumble_run.specs.Laws.{HasOneAnswer, HasOneSearch}
+use Rattle.rumble_run.specs.Opens.{Search, no_search, after_file, inputs_search, SearchOfFile, IsSearch, OfSearch}
 use Rattle.rumble_run.specs.inside.Computed.{of_front}
-use Rattle.rumble_run.specs.inside.Reads.{OpenedTo, files_of_name}
+use Rattle.rumble_run.specs.inside.Reads.{Searched, SearchedAll, SearchedSome, search_of_name}
+use Rattle.rumble_run.specs.inside.Seen.{IsToldAnswer}
 use Rattle.rumble_run.specs.declared.status.Status.TheVariants.{NoQuery}
 use Rattle.rumble_run.specs.declared.status.Stop.{Stop}
 use Rattle.rumble_run.specs.declared.command.Action.{Action}
@@ -23,6 +24,7 @@ use Rattle.rumble_run.specs.declared.command.Command.TheVariants.{Query, Trial}
 use Rattle.item_tree.specs.declared.fault.Fault.{Fault}
 use Rattle.rumble_run.proofs.Computing.{front_answered, only_of_front}
 use Rattle.rumble_run.proofs.Fronts.{front_is, only_front}
+use Rattle.rumble_run.proofs.Opened.{opened_then, missed_then, none_missed, nothing_some}
 
 -- ---- the answer
 
@@ -62,134 +64,178 @@ one_answer words world = record { some = answer_of_command world (command_of wor
 
 -- ---- what holds of the answer
 
+-- the answer where no file is read, which no world changes
+pub anywhere : (words : List (List ℕ)) (command : Option Command) (told : Option World) (a : Answer) → command_of words ≡ command → ReadsNoFile command
+    → ((w : World) → IsOfCommand w command a) → IsToldAnswer told words a
+unfolding IsAnswer
+anywhere words command told a c none h = λ w over. subst (λ c. IsOfCommand w c a) (sym c) (h w)
+
+-- the answer of a query, over the world that is told
+pub over_told : (words : List (List ℕ)) (act : Action) (name : List ℕ) (told : Option World) (a : Answer) → command_of words ≡ Some (Query act name)
+    → IfSome told (λ w. IsOfFile act name w (file_of w name) a) → IsToldAnswer told words a
+unfolding IsAnswer
+over_told words act name told a c h = λ w over.
+    let is : AnswersOver told (Some (Query act name)) w = subst (λ c. AnswersOver told c w) c over in
+    subst (λ c. IsOfCommand w c a) (sym c) (by w is)
+  where
+    by : (w : World) → AnswersOver told (Some (Query act name)) w → IsOfFile act name w (file_of w name) a
+    by w (inl e) = subst (λ t. IfSome t (λ w. IsOfFile act name w (file_of w name) a)) e h
+    by w (inr none) = absurd none
+
 -- of an ending that is the answer, what holds of it
-pub told : (world : Option World) (words : List (List ℕ)) (a : Answer) (Holds : Answer → Type 0) → IfSome world (λ w. IsAnswer words w a) → Holds a → OfAnswer world words Holds
-told None words a Holds is h = tt
-told (Some w) words a Holds is h = λ b it. subst Holds ((one_answer words w).only a b is it) h
+pub told : (world : Option World) (words : List (List ℕ)) (a : Answer) (Holds : Answer → Type 0) → IsToldAnswer world words a → Holds a → OfAnswer world words Holds
+told world words a Holds is h = λ w b over it. subst Holds ((one_answer words w).only a b (is w over) it) h
 
 -- what holds of every answer
 pub untold : (world : Option World) (words : List (List ℕ)) (Holds : Answer → Type 0) → ((a : Answer) → Holds a) → OfAnswer world words Holds
-untold None words Holds h = tt
-untold (Some w) words Holds h = λ b it. h b
+untold world words Holds h = λ w b over it. h b
 
--- ---- the files that are opened
+-- ---- the files that are looked for
 
-opened_of_file : (act : Action) (name : List ℕ) (world : World) (file : Option (List ℕ)) → (files : List (List ℕ)) × OpensOfFile act name world file files
-opened_of_file act name world None = ([], refl)
-opened_of_file act name world (Some query) =
+search_of_file : (act : Action) (name : List ℕ) (world : World) (file : Option (List ℕ)) → (search : Search) × SearchOfFile act name world file search
+search_of_file act name world None = (record { files = []; missing = name ∷ [] }, refl)
+search_of_file act name world (Some query) =
     let f : (front : Front) × IsFront query front = front_is query in
-    (name ∷ inputs_opened act world f.0, (f.0, f.1, refl))
+    (after_file name (inputs_search act world f.0), (f.0, f.1, refl))
 
-opened_of_command : (world : World) (command : Option Command) → (files : List (List ℕ)) × OpensOfCommand world command files
-opened_of_command world None = ([], refl)
-opened_of_command world (Some (Query act name)) = opened_of_file act name world (file_of world name)
-opened_of_command world (Some (Trial number lines)) = ([], refl)
+search_is : (command : Option Command) (world : World) → (search : Search) × IsSearch command world search
+unfolding IsSearch
+search_is None world = (no_search, refl)
+search_is (Some (Query act name)) world = search_of_file act name world (file_of world name)
+search_is (Some (Trial number lines)) world = (no_search, refl)
 
-only_opened_file : (act : Action) (name : List ℕ) (world : World) (file : Option (List ℕ)) (a b : List (List ℕ)) → OpensOfFile act name world file a → OpensOfFile act name world file b → a ≡ b
-only_opened_file act name world None a b e f = e ∙ sym f
-only_opened_file act name world (Some query) a b (front, is, e) (other, it, f) =
-    e ∙ ap (λ g. name ∷ inputs_opened act world g) (only_front query front other is it) ∙ sym f
+only_search_of_file : (act : Action) (name : List ℕ) (world : World) (file : Option (List ℕ)) (a b : Search) → SearchOfFile act name world file a → SearchOfFile act name world file b → a ≡ b
+only_search_of_file act name world None a b e f = e ∙ sym f
+only_search_of_file act name world (Some query) a b (front, is, e) (other, it, f) =
+    e ∙ ap (λ g. after_file name (inputs_search act world g)) (only_front query front other is it) ∙ sym f
 
-only_opened : (world : World) (command : Option Command) (a b : List (List ℕ)) → OpensOfCommand world command a → OpensOfCommand world command b → a ≡ b
-only_opened world None a b e f = e ∙ sym f
-only_opened world (Some (Query act name)) a b is it = only_opened_file act name world (file_of world name) a b is it
-only_opened world (Some (Trial number lines)) a b e f = e ∙ sym f
+only_search : (command : Option Command) (world : World) (a b : Search) → IsSearch command world a → IsSearch command world b → a ≡ b
+unfolding IsSearch
+only_search None world a b e f = e ∙ sym f
+only_search (Some (Query act name)) world a b is it = only_search_of_file act name world (file_of world name) a b is it
+only_search (Some (Trial number lines)) world a b e f = e ∙ sym f
 
-pub one_list : (words : List (List ℕ)) (world : World) → OpensOneList words world
-unfolding IsOpened
-one_list words world = record { some = opened_of_command world (command_of words); only = only_opened world (command_of words) }
+pub one_search : (command : Option Command) (world : World) → HasOneSearch command world
+one_search command world = record { some = search_is command world; only = only_search command world }
 
--- ---- how many files are opened
+-- ---- what a search leaves of the counts
 
-pub opened_none : (world : Option World) (words : List (List ℕ)) (counts : InputCounts) → command_of words ≡ None → OfOpened world words (λ files. OpenedJust (length files) counts counts)
-unfolding IsOpened
-opened_none None words counts e = tt
-opened_none (Some w) words counts e = λ files is.
-    let none : files ≡ [] = subst (λ c. OpensOfCommand w c files) e is in
-    subst (λ fs. OpenedJust (length fs) counts counts) (sym none) (omega arith, λ h. omega arith)
+pub nothing_searched : (counts : InputCounts) → SearchedAll no_search counts counts
+nothing_searched counts = ((omega arith, λ h. omega arith), none_missed counts)
 
-some_file : (w : World) (name : List ℕ) (o : Option (List ℕ)) → o ≡ file_of w name → files_of_name w name ≡ cond (is_some o) 1 0
-some_file w name o f = ap (λ o. cond (is_some o) 1 0) (sym f)
-
-at_most : (act : Action) (name : List ℕ) (w : World) (o : Option (List ℕ)) (files : List (List ℕ)) (before after : InputCounts) → OpensOfFile act name w o files
-    → OpenedAtMost (cond (is_some o) 1 0) before after → OpenedAtMost (length files) before after
-at_most act name w None files before after is h = subst (λ fs. OpenedAtMost (length fs) before after) (sym is) h
-at_most act name w (Some query) files before after (front, f, e) h =
-    subst (λ fs. OpenedAtMost (length fs) before after) (sym e) (omega (arith, h))
-
--- what holds of the files of a query of this name, in a told world
-abbrev pub OfFiles : Option World → Action → List ℕ → (List (List ℕ) → Type 0) → Type 0
-OfFiles world act name Holds = IfSome world (λ w. (files : List (List ℕ)) → OpensOfFile act name w (file_of w name) files → Holds files)
-
-pub opened_at_most : (world : Option World) (act : Action) (name : List ℕ) (before after : InputCounts)
-    → IfSome world (λ w. OpenedAtMost (files_of_name w name) before after) → OfFiles world act name (λ files. OpenedAtMost (length files) before after)
-opened_at_most None act name before after h = tt
-opened_at_most (Some w) act name before after h = λ files is. at_most act name w (file_of w name) files before after is h
-
-pub opened_missing : (world : Option World) (act : Action) (name : List ℕ) (before after : InputCounts)
-    → IfSome world (λ w. None ≡ file_of w name) → IfSome world (λ w. OpenedJust (files_of_name w name) before after) → OfFiles world act name (λ files. OpenedJust (length files) before after)
-opened_missing None act name before after m h = tt
-opened_missing (Some w) act name before after m h = λ files is.
-    let none : files ≡ [] = subst (λ o. OpensOfFile act name w o files) (sym m) is in
-    subst (λ fs. OpenedJust (length fs) before after) (sym none) (subst (λ n. OpenedJust n before after) (some_file w name None m) h)
-
-behind_query : {T : Type 0} (result : Result T Stop) (n : ℕ) (before mid after : InputCounts) → NoCountFalls mid after → OpenedJust 1 before mid → OpenedTo result n mid after → OpenedTo result (suc n) before after
-behind_query (Ok x) n before mid after falls one h = (
-  omega (arith, one.0, h.0),
-  λ small.
-      let late = h.1 small in
-      let early = one.1 (omega (arith, falls.opened, small)) in
-      omega (arith, early, late),
-)
-behind_query (Err stop) n before mid after falls one h = omega (arith, one.0, h)
-
-pub opened_query : {T : Type 0} (result : Result T Stop) (world : Option World) (act : Action) (name query : List ℕ) (before mid after : InputCounts)
-    → NoCountFalls mid after → IfSome world (λ w. Some query ≡ file_of w name) → IfSome world (λ w. OpenedJust (files_of_name w name) before mid)
-    → IfSome world (λ w. (front : Front) → IsFront query front → OpenedTo result (length (inputs_opened act w front)) mid after)
-    → OfFiles world act name (λ files. OpenedTo result (length files) before after)
-opened_query result None act name query before mid after falls f one h = tt
-opened_query result (Some w) act name query before mid after falls f one h = λ files is.
-    let o : OpensOfFile act name w (Some query) files = subst (λ o. OpensOfFile act name w o files) (sym f) is in
-    let first : OpenedJust 1 before mid = subst (λ n. OpenedJust n before mid) (some_file w name (Some query) f) one in
-    subst (λ fs. OpenedTo result (length fs) before after) (sym o.2)
-    (behind_query result (length (inputs_opened act w o.0)) before mid after falls first (h o.0 o.1))
-
--- the files of a command line, by its command
-pub opened_of_query : {T : Type 0} (result : Result T Stop) (world : Option World) (words : List (List ℕ)) (act : Action) (name : List ℕ) (before after : InputCounts)
-    → command_of words ≡ Some (Query act name) → OfFiles world act name (λ files. OpenedTo result (length files) before after)
-    → OfOpened world words (λ files. OpenedTo result (length files) before after)
-unfolding IsOpened
-opened_of_query result None words act name before after c h = tt
-opened_of_query result (Some w) words act name before after c h = λ files is. h files (subst (λ c. OpensOfCommand w c files) c is)
-
-pub opened_of_trial : {T : Type 0} (result : Result T Stop) (world : Option World) (words : List (List ℕ)) (number lines : ℕ) (counts : InputCounts)
-    → command_of words ≡ Some (Trial number lines) → OfOpened world words (λ files. OpenedTo result (length files) counts counts)
-unfolding IsOpened
-opened_of_trial result None words number lines counts c = tt
-opened_of_trial result (Some w) words number lines counts c = λ files is.
-    let none : files ≡ [] = subst (λ c. OpensOfCommand w c files) c is in
-    subst (λ fs. OpenedTo result (length fs) counts counts) (sym none) (none_to result counts)
+-- nothing is searched where the command reads no file
+pub no_file_searched : (told : Option World) (command other : Option Command) (counts : InputCounts) → other ≡ command → ReadsNoFile command
+    → OfSearch told other (λ search. SearchedAll search counts counts)
+unfolding IsSearch
+no_file_searched told command other counts e none = subst (λ c. OfSearch told c (λ search. SearchedAll search counts counts)) (sym e) (by told command none)
   where
-    none_to : {T : Type 0} (result : Result T Stop) (counts : InputCounts) → OpenedTo result 0 counts counts
-    none_to (Ok x) counts = (omega arith, λ h. omega arith)
-    none_to (Err stop) counts = omega arith
+    all : (w : World) (command : Option Command) → ReadsNoFile command → (search : Search) → IsSearch command w search → SearchedAll search counts counts
+    all w None none search is = subst (λ s. SearchedAll s counts counts) (sym is) (nothing_searched counts)
+    all w (Some (Query act name)) none search is = absurd none
+    all w (Some (Trial number lines)) none search is = subst (λ s. SearchedAll s counts counts) (sym is) (nothing_searched counts)
 
--- the files of the one front
-pub of_front_opened : {T : Type 0} (result : Result T Stop) (world : Option World) (act : Action) (query : List ℕ) (front : Front) (before after : InputCounts) → IsFront query front
-    → IfSome world (λ w. OpenedTo result (length (inputs_opened act w front)) before after)
-    → IfSome world (λ w. (other : Front) → IsFront query other → OpenedTo result (length (inputs_opened act w other)) before after)
-of_front_opened result None act query front before after is h = tt
-of_front_opened result (Some w) act query front before after is h = λ other it.
-    subst (λ f. OpenedTo result (length (inputs_opened act w f)) before after) (only_front query front other is it) h
+    by : (told : Option World) (command : Option Command) → ReadsNoFile command → OfSearch told command (λ search. SearchedAll search counts counts)
+    by None command none = tt
+    by (Some w) command none = all w command none
 
-none_opened : (act : Action) (w : World) (fault : Fault) → inputs_opened act w (Err fault) ≡ []
-none_opened (action.Run stats) w fault = refl
-none_opened action.Check w fault = refl
-none_opened action.Explain w fault = refl
+-- the search of a name alone, where there is a file of it
+searched_there : (w : World) (name : List ℕ) (query : List ℕ) (before after : InputCounts) → Some query ≡ file_of w name → SearchedAll (search_of_name w name) before after
+    → OpenedJust 1 before after × MissedJust 0 before after
+searched_there w name query before after f h =
+    subst (λ (o : Option (List ℕ)). OpenedJust (length (cond (is_some o) (name ∷ []) [])) before after × MissedJust (length (cond (not (is_some o)) (name ∷ []) [])) before after) (sym f) h
 
-pub refused_opened : (world : Option World) (act : Action) (query : List ℕ) (fault : Fault) (counts : InputCounts) → IsFront query (Err fault)
-    → IfSome world (λ w. (other : Front) → IsFront query other → OpenedJust (length (inputs_opened act w other)) counts counts)
-refused_opened None act query fault counts is = tt
-refused_opened (Some w) act query fault counts is = λ other it.
-    let none : inputs_opened act w other ≡ [] = ap (inputs_opened act w) (only_front query other (Err fault) it is) ∙ none_opened act w fault in
-    subst (λ fs. OpenedJust (length fs) counts counts) (sym none) (omega arith, λ h. omega arith)
+-- and where there is none
+searched_missing : (w : World) (name : List ℕ) (before after : InputCounts) → None ≡ file_of w name → SearchedAll (search_of_name w name) before after
+    → OpenedJust 0 before after × MissedJust 1 before after
+searched_missing w name before after f h =
+    subst (λ (o : Option (List ℕ)). OpenedJust (length (cond (is_some o) (name ∷ []) [])) before after × MissedJust (length (cond (not (is_some o)) (name ∷ []) [])) before after) (sym f) h
+
+-- what holds of the search for the query of this name, in a told world
+abbrev pub OfFiles : Option World → Action → List ℕ → (Search → Type 0) → Type 0
+OfFiles world act name Holds = IfSome world (λ w. (search : Search) → SearchOfFile act name w (file_of w name) search → Holds search)
+
+pub searched_missing_query : (world : Option World) (act : Action) (name : List ℕ) (before after : InputCounts)
+    → IfSome world (λ w. None ≡ file_of w name) → IfSome world (λ w. SearchedAll (search_of_name w name) before after) → OfFiles world act name (λ search. SearchedAll search before after)
+searched_missing_query None act name before after m h = tt
+searched_missing_query (Some w) act name before after m h = λ search is.
+    let none : search ≡ record { files = []; missing = name ∷ [] } = subst (λ o. SearchOfFile act name w o search) (sym m) is in
+    subst (λ s. SearchedAll s before after) (sym none) (searched_missing w name before after m h)
+
+-- a read of the query that stopped
+at_most : (act : Action) (name : List ℕ) (w : World) (o : Option (List ℕ)) (search : Search) (before after : InputCounts) → SearchOfFile act name w o search
+    → OpenedAtMost (length (cond (is_some o) (name ∷ []) [])) before after × MissedAtMost (length (cond (not (is_some o)) (name ∷ []) [])) before after → SearchedSome search before after
+at_most act name w None search before after is h = subst (λ s. SearchedSome s before after) (sym is) h
+at_most act name w (Some query) search before after (front, f, e) h =
+    subst (λ s. SearchedSome s before after) (sym e) (omega (arith, h.0), λ none. h.1 refl)
+
+pub searched_at_most : (world : Option World) (act : Action) (name : List ℕ) (before after : InputCounts)
+    → IfSome world (λ w. SearchedSome (search_of_name w name) before after) → OfFiles world act name (λ search. SearchedSome search before after)
+searched_at_most None act name before after h = tt
+searched_at_most (Some w) act name before after h = λ search is. at_most act name w (file_of w name) search before after is h
+
+behind_query : {T : Type 0} (result : Result T Stop) (name : List ℕ) (search : Search) (before mid after : InputCounts) → NoCountFalls mid after
+    → OpenedJust 1 before mid × MissedJust 0 before mid → Searched result search mid after → Searched result (after_file name search) before after
+behind_query (Ok x) name search before mid after falls one h =
+    let first : 1 + length search.files ≡ suc (length search.files) = omega arith in
+    let none : 0 + length search.missing ≡ length search.missing = omega arith in (
+      subst (λ n. OpenedJust n before after) first (opened_then 1 (length search.files) before mid after falls one.0 h.0),
+      subst (λ n. MissedJust n before after) none (missed_then 0 (length search.missing) before mid after falls one.1 h.1),
+    )
+behind_query (Err stop) name search before mid after falls one h = (omega (arith, one.0, h.0), λ none. h.1 none ∙ one.1.0 refl)
+
+pub searched_query : {T : Type 0} (result : Result T Stop) (world : Option World) (act : Action) (name query : List ℕ) (before mid after : InputCounts)
+    → NoCountFalls mid after → IfSome world (λ w. Some query ≡ file_of w name) → IfSome world (λ w. SearchedAll (search_of_name w name) before mid)
+    → IfSome world (λ w. (front : Front) → IsFront query front → Searched result (inputs_search act w front) mid after)
+    → OfFiles world act name (λ search. Searched result search before after)
+searched_query result None act name query before mid after falls f one h = tt
+searched_query result (Some w) act name query before mid after falls f one h = λ search is.
+    let o : SearchOfFile act name w (Some query) search = subst (λ o. SearchOfFile act name w o search) (sym f) is in
+    let first = searched_there w name query before mid f one in
+    subst (λ s. Searched result s before after) (sym o.2)
+    (behind_query result name (inputs_search act w o.0) before mid after falls first (h o.0 o.1))
+
+-- the search of a command line, by its command
+pub search_of_query : {T : Type 0} (result : Result T Stop) (world : Option World) (command : Option Command) (act : Action) (name : List ℕ) (before after : InputCounts)
+    → command ≡ Some (Query act name) → OfFiles world act name (λ search. Searched result search before after)
+    → OfSearch world command (λ search. Searched result search before after)
+unfolding IsSearch
+search_of_query result world command act name before after c h =
+    subst (λ c. OfSearch world c (λ search. Searched result search before after)) (sym c) (by world h)
+  where
+    at : (w : World) → ((search : Search) → SearchOfFile act name w (file_of w name) search → Searched result search before after)
+        → (search : Search) → IsSearch (Some (Query act name)) w search → Searched result search before after
+    at w h search is = h search is
+
+    by : (world : Option World) → OfFiles world act name (λ search. Searched result search before after) → OfSearch world (Some (Query act name)) (λ search. Searched result search before after)
+    by None h = tt
+    by (Some w) h = at w h
+
+-- the inputs of the one front
+pub of_front_searched : {T : Type 0} (result : Result T Stop) (world : Option World) (act : Action) (query : List ℕ) (front : Front) (before after : InputCounts) → IsFront query front
+    → IfSome world (λ w. Searched result (inputs_search act w front) before after)
+    → IfSome world (λ w. (other : Front) → IsFront query other → Searched result (inputs_search act w other) before after)
+of_front_searched result None act query front before after is h = tt
+of_front_searched result (Some w) act query front before after is h = λ other it.
+    subst (λ f. Searched result (inputs_search act w f) before after) (only_front query front other is it) h
+
+none_searched : (act : Action) (w : World) (fault : Fault) → inputs_search act w (Err fault) ≡ no_search
+none_searched (action.Run stats) w fault = refl
+none_searched action.Check w fault = refl
+none_searched action.Explain w fault = refl
+
+pub refused_searched : (world : Option World) (act : Action) (query : List ℕ) (fault : Fault) (counts : InputCounts) → IsFront query (Err fault)
+    → IfSome world (λ w. (other : Front) → IsFront query other → SearchedAll (inputs_search act w other) counts counts)
+refused_searched None act query fault counts is = tt
+refused_searched (Some w) act query fault counts is = λ other it.
+    let none : inputs_search act w other ≡ no_search = ap (inputs_search act w) (only_front query other (Err fault) it is) ∙ none_searched act w fault in
+    subst (λ s. SearchedAll s counts counts) (sym none) (nothing_searched counts)
+
+-- a call that stops with nothing looked for
+pub stopped_at_once : (world : Option World) (command : Option Command) (counts : InputCounts) → OfSearch world command (λ search. SearchedSome search counts counts)
+stopped_at_once None command counts = tt
+stopped_at_once (Some w) command counts = λ search is. nothing_some search counts
+
+pub trial_searched : {T : Type 0} (result : Result T Stop) (world : Option World) (command : Option Command) (number lines : ℕ) (counts : InputCounts)
+    → command ≡ Some (Trial number lines) → OfSearch world command (λ search. Searched result search counts counts)
+trial_searched (Ok x) world command number lines counts c = no_file_searched world (Some (Trial number lines)) command counts c tt
+trial_searched (Err stop) world command number lines counts c = stopped_at_once world command counts

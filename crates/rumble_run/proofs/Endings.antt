@@ -1,9 +1,10 @@
 -- What an ending is, by the parts that it was made of.
-use Rattle.std.proofs.Common.{◌≡◌, ℕ, Bool, true, false, List, length, ◌++◌, Option, None, Some, Result, Ok, Err, refl, sym, ap, ◌∙◌, subst, codes, inr, arith}
-use Rattle.std.specs.Prelude.{IfSome, IfOk}
+use Rattle.std.proofs.Common.{◌≡◌, ◌≤◌, ◌+◌, ◌⊎◌, ℕ, Bool, true, false, List, length, ◌++◌, Option, None, Some, Result, Ok, Err, refl, sym, ap, ◌∙◌, subst, codes, inl, inr, arith}
+use Rattle.std.specs.Prelude.{IfSome, IfOk, string_bytes}
 use Rattle.std.specs.Str.{encode_utf8_all}
 use Rattle.item_tree.specs.declared.fault.Fault.{Fault}
 use Rattle.item_reader.specs.Lines.{without_mark}
+use Rattle.outside.specs.Counted.{RoseByOne}
 use Rattle.outside.specs.World.{World, file_of}
 use Rattle.outside.specs.Opens.{InputCounts}
 use Rattle.query_tree.specs.Inputs.{input_names}
@@ -11,21 +12,26 @@ use Rattle.query_meaning.specs.Library.{Library}
 use Rattle.query_meaning.specs.Outcome.{Outcome}
 use Rattle.query_meaning.specs.Queries.{query_value}
 use Rattle.query_meaning.specs.inside.Computed.{inputs_of}
-use Rattle.rumble_run.specs.Answer.{Answer, IsAnswer, IsOfQuery, IsOfCommand, IsOfFile, IsOfTrial, IsOfExecutable, of_outcome, output_of, says, refused, accepted, usage}
-use Rattle.rumble_run.specs.Commands.{command_of, wants_stats}
-use Rattle.rumble_run.specs.Ends.{StatusBy, Completes, Calm, OpensBy, OpensByStatus, ChecksAlone}
+use Rattle.rumble_run.specs.Answer.{Answer, IsOfQuery, IsOfFile, IsOfTrial, IsOfExecutable, of_outcome, output_of, says, refused, accepted, usage}
+use Rattle.rumble_run.specs.Commands.{command_of, wants_stats, ReadsNone}
+use Rattle.rumble_run.specs.Ends.{StatusBy, Completes, Calm, OpensBy, OpensByStatus, OpensRose, OpenedAtMost, OpenedBy, MissedBy, LooksForNone, LooksForOne, ChecksAlone, NoCountFalls}
 use Rattle.rumble_run.specs.Front.{Executable, IsFront}
+use Rattle.rumble_run.specs.Opens.{Search, OfSearch}
 use Rattle.text_places.specs.Places.{line_of, column_of}
 use Rattle.rumble_run.specs.inside.Computed.{of_executable, of_run}
-use Rattle.rumble_run.specs.inside.Seen.{IsShaped, IsOfStatus, EndsAs, answer_of}
+use Rattle.rumble_run.specs.inside.Decided.{SearchedBy}
+use Rattle.rumble_run.specs.inside.Reads.{SearchedAll, SearchedSome}
+use Rattle.rumble_run.specs.inside.Seen.{IsShaped, IsSilent, IsOfStatus, IsToldAnswer, LeavesRun, EndsAs, answer_of, decided_status, status_of_stop}
 use Rattle.rumble_run.specs.declared.ending.Ending.{Ending}
 use Rattle.rumble_run.specs.declared.status.Status.{Status}
 use Rattle.rumble_run.specs.declared.status.Stop.{Stop}
+use Rattle.rumble_run.specs.declared.status.Stop.TheVariants as stop
 use Rattle.rumble_run.specs.declared.status.Status.TheVariants.{Done, Raised, Refused, Usage, ReadFault, WriteFault, NoMemory, NoQuery}
 use Rattle.rumble_run.specs.declared.command.Action.{Action}
 use Rattle.rumble_run.specs.declared.command.Action.TheVariants as action
 use Rattle.rumble_run.specs.declared.command.Command.{Command}
 use Rattle.rumble_run.specs.declared.command.Command.TheVariants.{Query, Trial}
+use Rattle.rumble_run.proofs.Answered.{anywhere, over_told}
 use Rattle.rumble_run.proofs.Computing.{executable_answered}
 
 abbrev pub IsOf : Bool → Answer → Type 0
@@ -81,23 +87,17 @@ query_ended (Err stop) act bytes text query world behind front h = tt
 
 -- ---- the answer to the words
 
-pub answer_usage : (a : Answer) (words : List (List ℕ)) (world : Option World) → command_of words ≡ None → a ≡ usage → IfSome world (λ w. IsAnswer words w a)
-unfolding IsAnswer
-answer_usage a words None q e = tt
-answer_usage a words (Some w) q e = rw q e
+pub answer_usage : (a : Answer) (words : List (List ℕ)) (world : Option World) → command_of words ≡ None → a ≡ usage → IsToldAnswer world words a
+answer_usage a words world q e = anywhere words None world a q tt (λ w. e)
 
 pub answer_file : (ending : Result Ending Stop) (words : List (List ℕ)) (act : Action) (name : List ℕ) (world : Option World) → command_of words ≡ Some (Query act name)
-    → IfOk ending (λ e. IfSome world (λ w. IsOfFile act name w (file_of w name) (answer_of e))) → IfOk ending (λ e. IfSome world (λ w. IsAnswer words w (answer_of e)))
-unfolding IsAnswer
-answer_file (Ok e) words act name None q h = tt
-answer_file (Ok e) words act name (Some w) q h = subst (λ q. IsOfCommand w q (answer_of e)) (sym q) h
+    → IfOk ending (λ e. IfSome world (λ w. IsOfFile act name w (file_of w name) (answer_of e))) → IfOk ending (λ e. IsToldAnswer world words (answer_of e))
+answer_file (Ok e) words act name world q h = over_told words act name world (answer_of e) q h
 answer_file (Err stop) words act name world q h = tt
 
 pub answer_trial : (ending : Result Ending Stop) (words : List (List ℕ)) (number lines : ℕ) (world : Option World) → command_of words ≡ Some (Trial number lines)
-    → IfOk ending (λ e. IsOfTrial number lines (answer_of e)) → IfOk ending (λ e. IfSome world (λ w. IsAnswer words w (answer_of e)))
-unfolding IsAnswer
-answer_trial (Ok e) words number lines None q h = tt
-answer_trial (Ok e) words number lines (Some w) q h = subst (λ q. IsOfCommand w q (answer_of e)) (sym q) h
+    → IfOk ending (λ e. IsOfTrial number lines (answer_of e)) → IfOk ending (λ e. IsToldAnswer world words (answer_of e))
+answer_trial (Ok e) words number lines world q h = anywhere words (Some (Trial number lines)) world (answer_of e) q tt (λ w. h)
 answer_trial (Err stop) words number lines world q h = tt
 
 -- ---- the answer to the query of a name
@@ -158,10 +158,172 @@ ends_complete a Refused before after calm e = inr e.0
 ends_complete a Usage before after calm e = inr e.0
 ends_complete a NoQuery before after calm e = inr e.0
 
--- ---- the files that a command opens
+-- ---- the files that a command looks for
 
-pub opens_stopped : (command : Option Command) (status : Status) (before after : InputCounts) → OpensByStatus status before after → ChecksAlone command before after
-    → OpensBy command status before after
-opens_stopped (Some (Trial number lines)) status before after o a = a
-opens_stopped (Some (Query act name)) status before after o a = o
-opens_stopped None status before after o a = o
+-- what holds of the status that was decided holds of the one that it comes to
+pub ends_by : (Holds : Status → Type 0) (s r : Status) (before after : ℕ) → (Holds Done → Holds WriteFault) → EndsAs s r before after → Holds s → Holds r
+ends_by Holds s WriteFault before after write e h = write (subst Holds e.0 h)
+ends_by Holds s ReadFault before after write e h = subst Holds (sym e.0) h
+ends_by Holds s NoMemory before after write e h = subst Holds (sym e.0) h
+ends_by Holds s Done before after write e h = subst Holds (sym e.0) h
+ends_by Holds s Raised before after write e h = subst Holds (sym e.0) h
+ends_by Holds s Refused before after write e h = subst Holds (sym e.0) h
+ends_by Holds s Usage before after write e h = subst Holds (sym e.0) h
+ends_by Holds s NoQuery before after write e h = subst Holds (sym e.0) h
+
+pub ends_opens : (command : Option Command) (s r : Status) (faults faults' : ℕ) (before after : InputCounts) → EndsAs s r faults faults'
+    → OpensBy command s before after → OpensBy command r before after
+ends_opens command s r faults faults' before after e o = ends_by (λ s. OpensBy command s before after) s r faults faults' (write command) e o
+  where
+    write : (command : Option Command) → OpensBy command Done before after → OpensBy command WriteFault before after
+    write (Some (Trial number lines)) h = h
+    write (Some (Query act name)) h = h
+    write None h = h
+
+pub ends_alone : (command : Option Command) (s r : Status) (faults faults' : ℕ) (before after : InputCounts) → EndsAs s r faults faults'
+    → ChecksAlone command s before after → ChecksAlone command r before after
+ends_alone command s r faults faults' before after e o = ends_by (λ s. ChecksAlone command s before after) s r faults faults' (write command) e o
+  where
+    write : (command : Option Command) → ChecksAlone command Done before after → ChecksAlone command WriteFault before after
+    write (Some (Trial number lines)) h = h
+    write (Some (Query (action.Run stats) name)) h = tt
+    write (Some (Query action.Check name)) h = h
+    write (Some (Query action.Explain name)) h = h
+    write None h = tt
+
+-- the two halves of a search, by the status
+pub ends_opened : (world : Option World) (command : Option Command) (s r : Status) (faults faults' : ℕ) (before after : InputCounts) → EndsAs s r faults faults'
+    → OfSearch world command (λ search. SearchedBy search s before after) → OfSearch world command (λ search. OpenedBy (length search.files) r before after)
+ends_opened None command s r faults faults' before after e h = tt
+ends_opened (Some w) command s r faults faults' before after e h = λ search is.
+    ends_by (λ s. OpenedBy (length search.files) s before after) s r faults faults' (λ h. h) e (h search is).0
+
+pub ends_missed : (world : Option World) (command : Option Command) (s r : Status) (faults faults' : ℕ) (before after : InputCounts) → EndsAs s r faults faults'
+    → OfSearch world command (λ search. SearchedBy search s before after) → OfSearch world command (λ search. MissedBy (length search.missing) r before after)
+ends_missed None command s r faults faults' before after e h = tt
+ends_missed (Some w) command s r faults faults' before after e h = λ search is.
+    ends_by (λ s. MissedBy (length search.missing) s before after) s r faults faults' (λ h. h) e (h search is).1
+
+pub search_opened : (world : Option World) (command : Option Command) (s : Status) (before after : InputCounts)
+    → OfSearch world command (λ search. SearchedBy search s before after) → OfSearch world command (λ search. OpenedBy (length search.files) s before after)
+search_opened None command s before after h = tt
+search_opened (Some w) command s before after h = λ search is. (h search is).0
+
+pub search_missed : (world : Option World) (command : Option Command) (s : Status) (before after : InputCounts)
+    → OfSearch world command (λ search. SearchedBy search s before after) → OfSearch world command (λ search. MissedBy (length search.missing) s before after)
+search_missed None command s before after h = tt
+search_missed (Some w) command s before after h = λ search is. (h search is).1
+
+-- an ending that was decided is no fault, so what it searched is all
+all_searched : (search : Search) (s : Status) (out : List ℕ) (before after : InputCounts) → IsSilent out s → SearchedAll search before after → SearchedBy search s before after
+all_searched search Done out before after silent h = h
+all_searched search Raised out before after silent h = h
+all_searched search Refused out before after silent h = h
+all_searched search Usage out before after silent h = h
+all_searched search NoQuery out before after silent h = h
+all_searched search WriteFault out before after silent h = absurd silent
+all_searched search ReadFault out before after silent h = absurd silent
+all_searched search NoMemory out before after silent h = absurd silent
+
+pub decided_searched : (world : Option World) (command : Option Command) (a : Answer) (before after : InputCounts) → IsSilent a.out a.status
+    → OfSearch world command (λ search. SearchedAll search before after) → OfSearch world command (λ search. SearchedBy search a.status before after)
+decided_searched None command a before after silent h = tt
+decided_searched (Some w) command a before after silent h = λ search is. all_searched search a.status a.out before after silent (h search is)
+
+stop_some : (search : Search) (stop : Stop) (before after : InputCounts) → SearchedSome search before after → SearchedBy search (status_of_stop stop) before after
+stop_some search stop.ReadFault before after h = h
+stop_some search stop.NoMemory before after h = h
+
+pub stop_searched : (world : Option World) (command : Option Command) (stop : Stop) (before after : InputCounts)
+    → OfSearch world command (λ search. SearchedSome search before after) → OfSearch world command (λ search. SearchedBy search (status_of_stop stop) before after)
+stop_searched None command stop before after h = tt
+stop_searched (Some w) command stop before after h = λ search is. stop_some search stop before after (h search is)
+
+-- ---- the query that was read was opened
+
+rose_after : (before mid after : InputCounts) → RoseByOne before.opened mid.opened → NoCountFalls mid after → OpensRose before after
+rose_after before mid after (inl h) falls = inl (omega (arith, h.0, h.1, falls.opened))
+rose_after before mid after (inr h) falls = inr (omega (arith, h.0, h.1, falls.opened))
+
+read_opens_by : (stats : Bool) (out err : List ℕ) (s : Status) (before mid after : InputCounts) → IsOfStatus stats out err s → RoseByOne before.opened mid.opened → mid.misses ≡ before.misses
+    → NoCountFalls mid after → (s ≡ Refused → LooksForNone mid after) → OpensByStatus s before after
+read_opens_by stats out err Done before mid after is opened missed falls alone = rose_after before mid after opened falls
+read_opens_by stats out err Raised before mid after is opened missed falls alone = rose_after before mid after opened falls
+read_opens_by stats out err Refused before mid after is opened missed falls alone =
+    subst (λ c. RoseByOne before.opened c.opened × (c.misses ≡ before.misses)) (sym (alone refl)) (opened, missed)
+read_opens_by stats out err Usage before mid after is opened missed falls alone = absurd is
+read_opens_by stats out err ReadFault before mid after is opened missed falls alone = absurd is
+read_opens_by stats out err WriteFault before mid after is opened missed falls alone = absurd is
+read_opens_by stats out err NoMemory before mid after is opened missed falls alone = absurd is
+read_opens_by stats out err NoQuery before mid after is opened missed falls alone = absurd is
+
+pub read_opens : (result : Result Ending Stop) (stats : Bool) (before mid after : InputCounts) → IfOk result (λ e. IsOf stats (answer_of e)) → RoseByOne before.opened mid.opened → mid.misses ≡ before.misses
+    → LeavesRun result mid after → IfOk result (λ e. OpensByStatus e.status before after)
+read_opens (Ok e) stats before mid after is opened missed leaves =
+    read_opens_by stats e.out.items (string_bytes e.err) e.status before mid after is opened missed leaves.leaves.rises leaves.refused
+read_opens (Err stop) stats before mid after is opened missed leaves = tt
+
+-- ---- a query that is only checked
+
+one_by : (s : Status) (before after : InputCounts) → (s ≡ NoQuery → ⊥) → OpenedAtMost 1 before after → after.misses ≡ before.misses → LooksForOne s before after
+one_by Done before after other opened missed = (opened, missed)
+one_by Raised before after other opened missed = (opened, missed)
+one_by Refused before after other opened missed = (opened, missed)
+one_by Usage before after other opened missed = (opened, missed)
+one_by ReadFault before after other opened missed = (opened, missed)
+one_by WriteFault before after other opened missed = (opened, missed)
+one_by NoMemory before after other opened missed = (opened, inr missed)
+one_by NoQuery before after other opened missed = absurd (other refl)
+
+pub checked_alone : (act : Action) (name : List ℕ) (s : Status) (before after : InputCounts) → (ReadsNone act → LooksForOne s before after) → ChecksAlone (Some (Query act name)) s before after
+checked_alone (action.Run stats) name s before after h = tt
+checked_alone action.Check name s before after h = h tt
+checked_alone action.Explain name s before after h = h tt
+
+status_read : (stats : Bool) (out err : List ℕ) (s : Status) → IsOfStatus stats out err s → s ≡ NoQuery → ⊥
+status_read stats out err s is e = subst (λ s. IsOfStatus stats out err s) e is
+
+stop_read : (stop : Stop) → status_of_stop stop ≡ NoQuery → ⊥
+stop_read stop.ReadFault e = cc
+stop_read stop.NoMemory e = cc
+
+decided_read : (result : Result Ending Stop) (stats : Bool) → IfOk result (λ e. IsOf stats (answer_of e)) → decided_status result ≡ NoQuery → ⊥
+decided_read (Ok e) stats is same = status_read stats e.out.items (string_bytes e.err) e.status is same
+decided_read (Err stop) stats is same = stop_read stop same
+
+pub read_alone : (result : Result Ending Stop) (act : Action) (name : List ℕ) (stats : Bool) (before mid after : InputCounts) → IfOk result (λ e. IsOf stats (answer_of e))
+    → RoseByOne before.opened mid.opened → mid.misses ≡ before.misses → (ReadsNone act → after ≡ mid) → ChecksAlone (Some (Query act name)) (decided_status result) before after
+read_alone result act name stats before mid after is opened missed same =
+    checked_alone act name (decided_status result) before after
+    (λ none. subst (λ c. LooksForOne (decided_status result) before c) (sym (same none)) (one_by (decided_status result) before mid (decided_read result stats is) (most opened) missed))
+  where
+    most : RoseByOne before.opened mid.opened → OpenedAtMost 1 before mid
+    most (inl h) = omega (arith, h.0, h.1)
+    most (inr h) = omega (arith, h.0, h.1)
+
+pub stopped_alone : (act : Action) (name : List ℕ) (stop : Stop) (before after : InputCounts) → after.opened ≤ before.opened + 1 → after.misses ≡ before.misses
+    → ChecksAlone (Some (Query act name)) (status_of_stop stop) before after
+stopped_alone act name stop before after opened missed =
+    checked_alone act name (status_of_stop stop) before after (λ none. one_by (status_of_stop stop) before after (stop_read stop) opened missed)
+
+pub missing_alone : (act : Action) (name : List ℕ) (s : Status) (before after : InputCounts) → (s ≡ NoQuery) ⊎ (s ≡ NoMemory) → after.opened ≡ before.opened
+    → ChecksAlone (Some (Query act name)) s before after
+missing_alone act name s before after (inl e) opened = checked_alone act name s before after (λ none. subst (λ s. LooksForOne s before after) (sym e) opened)
+missing_alone act name s before after (inr e) opened = checked_alone act name s before after (λ none. subst (λ s. LooksForOne s before after) (sym e) (omega (arith, opened), inl opened))
+
+-- ---- the files that a stop leaves
+
+-- ---- what the query's file tells of the command
+
+stop_file : (stop : Stop) (before after : InputCounts) → OpensByStatus (status_of_stop stop) before after
+stop_file stop.ReadFault before after = tt
+stop_file stop.NoMemory before after = tt
+
+pub file_opens : (result : Result Ending Stop) (command : Option Command) (act : Action) (name : List ℕ) (before after : InputCounts) → command ≡ Some (Query act name)
+    → IfOk result (λ e. OpensByStatus e.status before after) → OpensBy command (decided_status result) before after
+file_opens (Ok e) command act name before after c h = subst (λ c. OpensBy c e.status before after) (sym c) h
+file_opens (Err stop) command act name before after c h = subst (λ c. OpensBy c (status_of_stop stop) before after) (sym c) (stop_file stop before after)
+
+pub file_alone : (result : Result Ending Stop) (command : Option Command) (act : Action) (name : List ℕ) (before after : InputCounts) → command ≡ Some (Query act name)
+    → ChecksAlone (Some (Query act name)) (decided_status result) before after → ChecksAlone command (decided_status result) before after
+file_alone result command act name before after c h = subst (λ c. ChecksAlone c (decided_status result) before after) (sym c) h

@@ -1,12 +1,12 @@
 -- What a query comes to that is one input and nothing else.
-use Rattle.std.proofs.Common.{◌≡◌, ◌<◌, ◌∙◌, arith, get_or, ℕ, List, [], ◌∷◌, Option, None, Some, Result, Ok, Err, Bool, true, false, cond, length, is_some, map, refl, sym, ap, subst}
+use Rattle.std.proofs.Common.{◌≡◌, ◌<◌, ◌∙◌, arith, get_or, ℕ, List, [], ◌∷◌, Option, None, Some, Result, Ok, Err, Bool, cond, length, map, refl, sym, ap, subst}
 use Rattle.std.specs.Prelude.{IfSome, Vec}
 use Rattle.std.specs.declared.alloc.Global.{Global}
 use Rattle.std.proofs.lemmas.List.{append-nil}
 use Rattle.std.proofs.lemmas.Slice.Eq.{bytes_eq-Decides}
 use Rattle.item_reader.specs.Reading.{Read}
 use Rattle.outside.specs.Opens.{InputCounts}
-use Rattle.outside.specs.World.{World, file_of}
+use Rattle.outside.specs.World.{World}
 use Rattle.query_tree.specs.Compiled.{BoundTrees, bound_trees}
 use Rattle.query_tree.specs.Modules.{variable_of}
 use Rattle.query_tree.specs.declared.module.Module.{Module}
@@ -30,10 +30,10 @@ use Rattle.query_meaning.specs.Queries.{whole_depth, outermost, program_of, glob
 use Rattle.query_meaning.specs.inside.Computed.{read_of, inputs_of}
 use Rattle.rumble_run.specs.Answer.{Answer, of_outcome}
 use Rattle.rumble_run.specs.Front.{Executable}
-use Rattle.rumble_run.specs.Opens.{files_among}
+use Rattle.rumble_run.specs.Opens.{search_among}
 use Rattle.rumble_run.specs.declared.status.Stop.{Stop}
 use Rattle.rumble_run.specs.inside.Computed.{of_run}
-use Rattle.rumble_run.specs.inside.Reads.{OpenedTo, files_of_name}
+use Rattle.rumble_run.specs.inside.Reads.{Searched, search_of_name}
 use Rattle.rumble_run.specs.inside.LoneInput.{IsCallOf, IsLoneInput, found, lone_value}
 
 pub call_of_one : {A : Type 0} (to : A → List ℕ) (kind : Kind Slot Target SeqType) (function : Target) (arguments : Vec (Expr Slot Target SeqType) Global) (name : Option A)
@@ -96,16 +96,8 @@ lone_ended stats a text query names name place (Some w) all one lone e =
     e ∙ ap (of_outcome stats text) (sym (lone_outcome query.width query.trees w name place lone))
     ∙ ap (λ ns. of_outcome stats text (query_value query.width query.trees (inputs_of w ns))) (sym one ∙ all)
 
--- the files of one name are as many as there are of that name
-files_of_one : (w : World) (name : List ℕ) → length (files_among w (name ∷ [])) ≡ files_of_name w name
-files_of_one w name = by (is_some (file_of w name))
-  where
-    by : (b : Bool) → length (cond b (name ∷ []) []) ≡ cond b 1 0
-    by true = refl
-    by false = refl
-
-pub lone_opened : {T : Type 0} (result : Result T Stop) (names : List (List ℕ)) (all : List (List ℕ)) (name : List ℕ) (world : Option World) (before after : InputCounts) → names ≡ all → names ≡ name ∷ []
-    → IfSome world (λ w. OpenedTo result (files_of_name w name) before after) → IfSome world (λ w. OpenedTo result (length (files_among w all)) before after)
-lone_opened result names all name None before after is one o = tt
-lone_opened result names all name (Some w) before after is one o =
-    subst (λ n. OpenedTo result n before after) (sym (files_of_one w name) ∙ ap (λ ns. length (files_among w ns)) (sym one ∙ is)) o
+pub lone_searched : {T : Type 0} (result : Result T Stop) (names : List (List ℕ)) (all : List (List ℕ)) (name : List ℕ) (world : Option World) (before after : InputCounts) → names ≡ all → names ≡ name ∷ []
+    → IfSome world (λ w. Searched result (search_of_name w name) before after) → IfSome world (λ w. Searched result (search_among w all) before after)
+lone_searched result names all name None before after is one o = tt
+lone_searched result names all name (Some w) before after is one o =
+    subst (λ (ns : List (List ℕ)). Searched result (search_among w ns) before after) (sym one ∙ is) o

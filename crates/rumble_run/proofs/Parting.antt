@@ -1,22 +1,31 @@
 -- Runs whose result is written as parts.
-use Rattle.std.proofs.Common.{◌≡◌, ℕ, List, Option, None, Some, Result, Ok, Err, refl, sym, ap, ◌∙◌, subst, inl, inr, arith, false}
+use Rattle.std.proofs.Common.{◌≡◌, ◌≢◌, ℕ, List, [], Option, None, Some, Result, Err, length, refl, sym, ap, ◌∙◌, subst, inl, inr, arith, false}
 use Rattle.std.specs.Prelude.{IfSome, IfOk}
 use Rattle.outside.specs.Opens.{InputCounts}
 use Rattle.outside.specs.Outputs.{Made}
 use Rattle.outside.specs.World.{World, file_of}
 use Rattle.part_writer.specs.Parts.{parts_of}
 use Rattle.run_words.specs.declared.task.PartsTask.{PartsTask}
-use Rattle.rumble_run.specs.Answer.{Answer, IsOfFile, IsOfCommand}
-use Rattle.rumble_run.specs.Ends.{HasText, StatusBy, Completes, Calm, OpensBy, OpensByStatus, MissesRose, err_by}
+use Rattle.rumble_run.specs.Answer.{Answer, AnswersOver, IsOfFile}
+use Rattle.rumble_run.specs.Ends.{HasText, StatusBy, Completes, Calm, OpensBy, OpensByStatus, OpenedBy, OpenedJust, MissedBy, MissedJust, MissesRose, NoCountFalls, IsBalanced, Wrote, err_by}
+use Rattle.rumble_run.specs.Headline.{RunsParts, Looked, Told}
+use Rattle.rumble_run.specs.Opens.{Search, OfSearch}
 use Rattle.rumble_run.specs.Parts.{IsOfParts, IsPartsAnswer, OfPartsAnswer, HasPartsText, parts_task, parts_count, parts_usage, output_parts, run_of_parts, Written, PartsBy, IsUnwritten, PartsStopped}
-use Rattle.rumble_run.specs.inside.Parted.{IsPartsShaped, IsWriting, PartsEnd}
-use Rattle.rumble_run.specs.inside.Seen.{IsShaped, IsUsage, IsSilent}
+use Rattle.rumble_run.specs.inside.Decided.{IsStop}
+use Rattle.rumble_run.specs.inside.Parted.{IsPartsShaped, IsToldParts, IsWriting, PartsEnd}
+use Rattle.rumble_run.specs.inside.Reads.{CausedBy, Searched, SearchedAll, SearchedSome}
+use Rattle.rumble_run.specs.inside.Seen.{IsShaped, IsUsage, IsSilent, decided_status, status_of_stop}
+use Rattle.rumble_run.specs.declared.ending.Ending.{Ending}
+use Rattle.rumble_run.specs.declared.parts.Parted.{Parted}
 use Rattle.rumble_run.specs.declared.status.Status.{Status}
 use Rattle.rumble_run.specs.declared.status.Status.TheVariants.{Done, Raised, Refused, Usage, ReadFault, WriteFault, NoMemory, NoQuery}
+use Rattle.rumble_run.specs.declared.status.Stop.{Stop}
+use Rattle.rumble_run.specs.declared.status.Stop.TheVariants as stop
 use Rattle.rumble_run.specs.declared.command.Action.TheVariants as action
 use Rattle.rumble_run.specs.declared.command.Command.{Command}
 use Rattle.rumble_run.specs.declared.command.Command.TheVariants.{Query}
-use Rattle.rumble_run.proofs.Answered.{only_of_command}
+use Rattle.rumble_run.proofs.Answered.{only_of_command, no_file_searched, search_of_query, OfFiles}
+use Rattle.rumble_run.proofs.Endings.{file_opens}
 
 -- ---- one answer
 
@@ -26,27 +35,32 @@ only_of_parts world None a b e f = e ∙ sym f
 only_of_parts world (Some task) a b is it = only_of_command world (run_of_parts (Some task)) a b is it
 
 pub told_parts : (world : Option World) (words : List (List ℕ)) (a : Answer) (Holds : Answer → Type 0)
-    → IfSome world (λ w. IsPartsAnswer words w a) → Holds a → OfPartsAnswer world words Holds
+    → IsToldParts world words a → Holds a → OfPartsAnswer world words Holds
 unfolding IsPartsAnswer
-told_parts None words a Holds is h = tt
-told_parts (Some w) words a Holds is h = λ b it.
-    subst Holds (only_of_parts w (parts_task words) a b is it) h
+told_parts world words a Holds is h = λ w b over it.
+    subst Holds (only_of_parts w (parts_task words) a b (is w over) it) h
 
 -- ---- what is decided
 
 pub usage_decided : (world : Option World) (words : List (List ℕ)) (a : Answer) → parts_task words ≡ None
-    → a ≡ parts_usage → IfSome world (λ w. IsPartsAnswer words w a)
+    → a ≡ parts_usage → IsToldParts world words a
 unfolding IsPartsAnswer
-usage_decided None words a none e = tt
-usage_decided (Some w) words a none e = subst (λ t. IsOfParts w t a) (sym none) e
+usage_decided world words a none e = λ w over. subst (λ t. IsOfParts w t a) (sym none) e
 
-pub run_decided : (world : Option World) (words : List (List ℕ)) (a : Answer) (task : PartsTask)
+pub run_decided : (told : Option World) (words : List (List ℕ)) (a : Answer) (task : PartsTask)
     → parts_task words ≡ Some task
-    → IfSome world (λ w. IsOfFile (action.Run false) task.query w (file_of w task.query) a)
-    → IfSome world (λ w. IsPartsAnswer words w a)
+    → IfSome told (λ w. IsOfFile (action.Run false) task.query w (file_of w task.query) a)
+    → IsToldParts told words a
 unfolding IsPartsAnswer
-run_decided None words a task some is = tt
-run_decided (Some w) words a task some is = subst (λ t. IsOfParts w t a) (sym some) is
+run_decided told words a task some h = λ w over.
+    subst (λ t. IsOfParts w t a) (sym some)
+    (by w (subst (λ t. AnswersOver told (run_of_parts t) w) some over))
+  where
+    by : (w : World) → AnswersOver told (run_of_parts (Some task)) w
+        → IsOfFile (action.Run false) task.query w (file_of w task.query) a
+    by w (inl e) =
+        subst (λ t. IfSome t (λ w. IsOfFile (action.Run false) task.query w (file_of w task.query) a)) e h
+    by w (inr none) = absurd none
 
 usage_shaped_by : (a : Answer) → a ≡ parts_usage → IsPartsShaped None a
 usage_shaped_by a e =
@@ -76,17 +90,44 @@ run_shaped words a task some h =
     subst (λ t. IsPartsShaped t a) (sym some)
     (run_shaped_by task a.status a.out a.err h.text h.silent h.usage)
 
-pub opens_decided : (words : List (List ℕ)) (task : PartsTask) (s : Status) (before after : InputCounts)
-    → parts_task words ≡ Some task → OpensByStatus s before after
-    → OpensBy (run_of_parts (parts_task words)) s before after
-opens_decided words task s before after some o =
-    subst (λ t. OpensBy (run_of_parts t) s before after) (sym some) o
+pub opens_decided : (result : Result Ending Stop) (words : List (List ℕ)) (task : PartsTask) (before after : InputCounts)
+    → parts_task words ≡ Some task → IfOk result (λ e. OpensByStatus e.status before after)
+    → OpensBy (run_of_parts (parts_task words)) (decided_status result) before after
+opens_decided result words task before after some o =
+    subst (λ t. OpensBy (run_of_parts t) (decided_status result) before after) (sym some)
+    (file_opens result (run_of_parts (Some task)) (action.Run false) task.query before after refl o)
 
-pub opens_no_task : (words : List (List ℕ)) (s : Status) (before after : InputCounts)
-    → parts_task words ≡ None → OpensByStatus s before after
-    → OpensBy (run_of_parts (parts_task words)) s before after
-opens_no_task words s before after none o =
-    subst (λ t. OpensBy (run_of_parts t) s before after) (sym none) o
+pub opens_usage : (words : List (List ℕ)) (a : Answer) (counts : InputCounts) → parts_task words ≡ None
+    → a ≡ parts_usage → OpensBy (run_of_parts (parts_task words)) a.status counts counts
+opens_usage words a counts none e =
+    subst (λ t. OpensBy (run_of_parts t) a.status counts counts) (sym none)
+    (subst (λ (b : Answer). OpensByStatus b.status counts counts) (sym e) refl)
+
+pub opens_nothing : (task : Option PartsTask) (counts : InputCounts)
+    → OpensBy (run_of_parts task) NoMemory counts counts
+opens_nothing None counts = tt
+opens_nothing (Some task) counts = tt
+
+pub search_no_task : (world : Option World) (words : List (List ℕ)) (counts : InputCounts)
+    → parts_task words ≡ None
+    → OfSearch world (run_of_parts (parts_task words)) (λ search. SearchedAll search counts counts)
+search_no_task world words counts none =
+    no_file_searched world None (run_of_parts (parts_task words)) counts (ap run_of_parts none) tt
+
+pub search_decided : {T : Type 0} (result : Result T Stop) (world : Option World) (words : List (List ℕ)) (task : PartsTask) (before after : InputCounts)
+    → parts_task words ≡ Some task
+    → OfFiles world (action.Run false) task.query (λ search. Searched result search before after)
+    → OfSearch world (run_of_parts (parts_task words)) (λ search. Searched result search before after)
+search_decided result world words task before after some h =
+    search_of_query result world (run_of_parts (parts_task words)) (action.Run false) task.query before after
+    (ap run_of_parts some) h
+
+pub stop_decided : (world : Option World) (words : List (List ℕ)) (task : PartsTask) (before after : InputCounts)
+    → parts_task words ≡ Some task
+    → OfFiles world (action.Run false) task.query (λ search. SearchedSome search before after)
+    → OfSearch world (run_of_parts (parts_task words)) (λ search. SearchedSome search before after)
+stop_decided world words task before after some h =
+    search_decided {T = ℕ} (Err stop.NoMemory) world words task before after some h
 
 -- ---- how it ends
 
@@ -189,8 +230,8 @@ usage_ends a r same e = subst (λ (b : Answer). PartsEnd b.status r) same e
 
 opens_status : (s r : Status) (before after : InputCounts) → PartsEnd s r → OpensByStatus s before after
     → OpensByStatus r before after
-opens_status Done Done before after e o = tt
-opens_status Done WriteFault before after e o = tt
+opens_status Done Done before after e o = o
+opens_status Done WriteFault before after e o = o
 opens_status Done NoMemory before after e o = tt
 opens_status Done Raised before after e o = absurd e
 opens_status Done Refused before after e o = absurd e
@@ -210,21 +251,10 @@ pub parts_opens : (task : Option PartsTask) (s r : Status) (before after : Input
 parts_opens None s r before after e o = opens_status s r before after e o
 parts_opens (Some task) s r before after e o = opens_status s r before after e o
 
-pub stopped_opens : (task : Option PartsTask) (s : Status) (before after : InputCounts)
-    → OpensByStatus s before after → OpensBy (run_of_parts task) s before after
-stopped_opens None s before after o = o
-stopped_opens (Some task) s before after o = o
-
 pub missed : (task : Option PartsTask) (r : Status) (before after : InputCounts)
     → OpensBy (run_of_parts task) r before after → r ≡ NoQuery → MissesRose before after
 missed None r before after o same = (subst (λ s. OpensByStatus s before after) same o).1
 missed (Some task) r before after o same = (subst (λ s. OpensByStatus s before after) same o).1
-
--- what holds of every answer
-pub untold_parts : (world : Option World) (words : List (List ℕ)) (Holds : Answer → Type 0)
-    → ((a : Answer) → Holds a) → OfPartsAnswer world words Holds
-untold_parts None words Holds h = tt
-untold_parts (Some w) words Holds h = λ b it. h b
 
 pub counted : (words : List (List ℕ)) (n : ℕ) (out : List ℕ) (r : Status) (w w' : Written)
     → n ≡ parts_count (parts_task words) → PartsBy (parts_of n out) r w w'
@@ -240,3 +270,134 @@ stopped parts w = record {
   faults = refl;
   list = record { listed = refl; faults = refl };
 }
+
+-- ---- the clauses of a run with parts
+
+end_opened : (n : ℕ) (s r : Status) (out : List ℕ) (before after : InputCounts) → IsSilent out s → PartsEnd s r
+    → OpenedJust n before after → OpenedBy n r before after
+end_opened n s Done out before after silent e h = h
+end_opened n s Raised out before after silent e h = h
+end_opened n s Refused out before after silent e h = h
+end_opened n s Usage out before after silent e h = h
+end_opened n s ReadFault out before after silent e h = h.0
+end_opened n s WriteFault out before after silent e h = h
+end_opened n s NoMemory out before after silent e h = h.0
+end_opened n s NoQuery out before after silent e h = h
+
+end_missed : (n : ℕ) (r : Status) (before after : InputCounts) → MissedJust n before after → MissedBy n r before after
+end_missed n Done before after h = h
+end_missed n Raised before after h = h
+end_missed n Refused before after h = h
+end_missed n Usage before after h = h
+end_missed n ReadFault before after h = h.0
+end_missed n WriteFault before after h = h
+end_missed n NoMemory before after h = h.0
+end_missed n NoQuery before after h = h
+
+search_by : {P Q : Search → Type 0} (world : Option World) (command : Option Command) → ((s : Search) → P s → Q s)
+    → OfSearch world command P → OfSearch world command Q
+search_by None command f h = tt
+search_by (Some w) command f h = λ search is. f search (h search is)
+
+pub parts_ran : (words : List (List ℕ)) (a : Answer) (n : ℕ) (r : Status) (inputs inputs' : Looked) (w w' : Written) (err err' : Told)
+    → IsToldParts inputs.world words a → n ≡ parts_count (parts_task words)
+    → IsPartsShaped (parts_task words) a → (parts_task words ≡ None → a ≡ parts_usage)
+    → inputs'.counts.faults ≡ inputs.counts.faults → NoCountFalls inputs.counts inputs'.counts
+    → IsBalanced inputs.counts inputs'.counts
+    → OpensBy (run_of_parts (parts_task words)) a.status inputs.counts inputs'.counts
+    → OfSearch inputs.world (run_of_parts (parts_task words)) (λ search. SearchedAll search inputs.counts inputs'.counts)
+    → inputs'.world ≡ inputs.world → PartsEnd a.status r → PartsBy (parts_of n a.out) r w w'
+    → Wrote (err_by a.err r) err.wrote err'.wrote err.faults err'.faults
+    → RunsParts words r inputs inputs' w w' err err'
+parts_ran words a n r inputs inputs' w w' err err' is count shape usage calm rises balanced opens search world end parts wrote =
+    let command = run_of_parts (parts_task words) in
+    let opened = parts_opens (parts_task words) a.status r inputs.counts inputs'.counts end opens in
+    record {
+      status = told_parts inputs.world words a _ is (parts_status a r shape.silent end);
+      parts = told_parts inputs.world words a _ is (counted words n a.out r w w' count parts);
+      text = told_parts inputs.world words a _ is wrote;
+      completes = λ read made listed. told_parts inputs.world words a _ is
+          (parts_complete a r (parts_of n a.out) w w' shape.silent end parts made listed);
+      untold_parts = (a.out, counted words n a.out r w w' count parts);
+      untold_text = (err_by a.err r, parts_text (parts_task words) a r shape end, wrote);
+      usage = λ same. parts_usage_only (parts_task words) a r shape end same;
+      only_usage = λ none. inl (usage_ends a r (usage none) end);
+      no_query = λ same. missed (parts_task words) r inputs.counts inputs'.counts opened same;
+      read_fault = λ same. absurd (parts_never_read (parts_task words) a r shape end same);
+      read_first = λ more. absurd (omega (arith, more, calm));
+      opened = search_by inputs.world command (λ s h.
+          end_opened (length s.files) a.status r a.out inputs.counts inputs'.counts shape.silent end h.0) search;
+      missed = search_by inputs.world command (λ s h.
+          end_missed (length s.missing) r inputs.counts inputs'.counts h.1) search;
+      opens = opened;
+      closed = balanced;
+      rises = rises;
+      world = world;
+    }
+
+stop_parts_text : (task : Option PartsTask) (s : Status) → IsStop s → HasPartsText task (err_by [] s) s
+stop_parts_text task ReadFault is = refl
+stop_parts_text task NoMemory is = refl
+stop_parts_text task Done is = absurd is
+stop_parts_text task Raised is = absurd is
+stop_parts_text task Refused is = absurd is
+stop_parts_text task Usage is = absurd is
+stop_parts_text task WriteFault is = absurd is
+stop_parts_text task NoQuery is = absurd is
+
+pub parts_stopped : (words : List (List ℕ)) (s : Stop) (r : Status) (inputs inputs' : Looked) (w : Written) (err err' : Told)
+    → r ≡ status_of_stop s → (s ≡ stop.ReadFault → parts_task words ≢ None)
+    → CausedBy {T = Parted} (Err s) inputs.counts.faults inputs'.counts.faults → NoCountFalls inputs.counts inputs'.counts
+    → IsBalanced inputs.counts inputs'.counts
+    → OpensBy (run_of_parts (parts_task words)) (status_of_stop s) inputs.counts inputs'.counts
+    → OfSearch inputs.world (run_of_parts (parts_task words)) (λ search. SearchedSome search inputs.counts inputs'.counts)
+    → inputs'.world ≡ inputs.world
+    → ((text : List ℕ) → Wrote (err_by text r) err.wrote err'.wrote err.faults err'.faults)
+    → RunsParts words r inputs inputs' w w err err'
+parts_stopped words s r inputs inputs' w err err' is unread cause rises balanced opens search world wrote =
+    subst (λ r. RunsParts words r inputs inputs' w w err err') (sym is)
+    (by s unread cause opens (subst (λ r. (text : List ℕ) → Wrote (err_by text r) err.wrote err'.wrote err.faults err'.faults) is wrote))
+  where
+    by : (s : Stop) → (s ≡ stop.ReadFault → parts_task words ≢ None)
+        → CausedBy {T = Parted} (Err s) inputs.counts.faults inputs'.counts.faults
+        → OpensBy (run_of_parts (parts_task words)) (status_of_stop s) inputs.counts inputs'.counts
+        → ((text : List ℕ) → Wrote (err_by text (status_of_stop s)) err.wrote err'.wrote err.faults err'.faults)
+        → RunsParts words (status_of_stop s) inputs inputs' w w err err'
+    by stop.ReadFault unread rose opens wrote = record {
+      status = λ world b over it. tt;
+      parts = λ world b over it. unwritten w;
+      text = λ world b over it. wrote b.err;
+      completes = λ read made listed. absurd (omega (arith, rose, read.0, read.1));
+      untold_parts = ([], unwritten w);
+      untold_text = (err_by [] ReadFault, stop_parts_text (parts_task words) ReadFault tt, wrote []);
+      usage = λ same. cc;
+      only_usage = λ none. absurd (unread refl none);
+      no_query = λ same. cc;
+      read_fault = λ same. rose;
+      read_first = λ more. inl refl;
+      opened = search_by inputs.world (run_of_parts (parts_task words)) (λ s h. h.0) search;
+      missed = search_by inputs.world (run_of_parts (parts_task words)) (λ s h. h.1) search;
+      opens = opens;
+      closed = balanced;
+      rises = rises;
+      world = world;
+    }
+    by stop.NoMemory unread rose opens wrote = record {
+      status = λ world b over it. tt;
+      parts = λ world b over it. stopped (output_parts words b.out) w;
+      text = λ world b over it. wrote b.err;
+      completes = λ read made listed. λ world b over it. inl refl;
+      untold_parts = ([], stopped (output_parts words []) w);
+      untold_text = (err_by [] NoMemory, stop_parts_text (parts_task words) NoMemory tt, wrote []);
+      usage = λ same. cc;
+      only_usage = λ none. inr refl;
+      no_query = λ same. cc;
+      read_fault = λ same. cc;
+      read_first = λ more. inr refl;
+      opened = search_by inputs.world (run_of_parts (parts_task words)) (λ s h. h.0) search;
+      missed = search_by inputs.world (run_of_parts (parts_task words)) (λ s h. h.1) search;
+      opens = opens;
+      closed = balanced;
+      rises = rises;
+      world = world;
+    }

@@ -1,6 +1,6 @@
 -- The answer to a command line over a world of inputs: a status, with the bytes for the output
 -- and for the errors.
-use Rattle.std.specs.Prelude.{◌≡◌, ℕ, Bool, false, List, [], ◌∷◌, ◌++◌, length, Option, None, Some, IfSome, Ok, Err, codes, if◌then◌else◌}
+use Rattle.std.specs.Prelude.{◌≡◌, ℕ, Bool, false, List, [], ◌∷◌, ◌++◌, ◌⊎◌, length, Option, None, Some, Ok, Err, codes, if◌then◌else◌}
 use Rattle.std.specs.Fmt.{decimal}
 use Rattle.std.specs.Str.{encode_utf8_all}
 use Rattle.item_tree.specs.declared.fault.Fault.{Fault}
@@ -143,7 +143,18 @@ IsOfCommand world (Some (Trial number lines)) answer = IsOfTrial number lines an
 unfoldable pub IsAnswer : List (List ℕ) → World → Answer → Type 0
 IsAnswer words world answer = IsOfCommand world (command_of words) answer
 
--- where the world is told, this holds of the answer
+-- these read no file: a trial, and words of no command
+abbrev pub ReadsNoFile : Option Command → Type 0
+ReadsNoFile None = Unit {0}
+ReadsNoFile (Some (Query act name)) = ⊥
+ReadsNoFile (Some (Trial number lines)) = Unit {0}
+
+-- a call is answered over the world that is told; and over every one, where no file is read
+abbrev pub AnswersOver : Option World → Option Command → World → Type 0
+AnswersOver told command world = (told ≡ Some world) ⊎ ReadsNoFile command
+
+-- this holds of the answer: where the world is told, and of a trial whatever is told
 abbrev pub OfAnswer : Option World → List (List ℕ) → (Answer → Type 0) → Type 0
-OfAnswer world words Holds =
-    IfSome world (λ w. (answer : Answer) → IsAnswer words w answer → Holds answer)
+OfAnswer told words Holds =
+    (world : World) (answer : Answer) → AnswersOver told (command_of words) world
+    → IsAnswer words world answer → Holds answer

@@ -108,6 +108,24 @@ OpenedBy n ReadFault before after = OpenedAtMost n before after
 OpenedBy n NoMemory before after = OpenedAtMost n before after
 OpenedBy n _ before after = OpenedJust n before after
 
+-- so many names were missing: where it is none their count stays, and else it rises by as many at
+-- least, or stands at its last value
+abbrev pub MissedJust : ℕ → InputCounts → InputCounts → Type 0
+MissedJust n before after =
+    (n ≡ 0 → after.misses ≡ before.misses)
+    × ((before.misses + n ≤ after.misses) ⊎ (2 ^ 64 - 1 ≤ after.misses))
+
+-- of so many names some may have been missing
+abbrev pub MissedAtMost : ℕ → InputCounts → InputCounts → Type 0
+MissedAtMost n before after = n ≡ 0 → after.misses ≡ before.misses
+
+-- of so many names that are missing each was looked for; or, where reading failed or memory was
+-- short, some were
+abbrev pub MissedBy : ℕ → Status → InputCounts → InputCounts → Type 0
+MissedBy n ReadFault before after = MissedAtMost n before after
+MissedBy n NoMemory before after = MissedAtMost n before after
+MissedBy n _ before after = MissedJust n before after
+
 -- an open, or a call on a file, failed
 abbrev pub FaultsRose : InputCounts → InputCounts → Type 0
 FaultsRose before after = Rose before.faults after.faults
@@ -116,16 +134,26 @@ FaultsRose before after = Rose before.faults after.faults
 abbrev pub MissesRose : InputCounts → InputCounts → Type 0
 MissesRose before after = Rose before.misses after.misses
 
--- no file was given out, and none was missing
+-- no file was looked for: each count is what it was
 abbrev pub LooksForNone : InputCounts → InputCounts → Type 0
-LooksForNone before after = (after.opened ≡ before.opened) × (after.misses ≡ before.misses)
+LooksForNone before after = after ≡ before
 
--- `check` and `explain` open no file but their query, and a trial looks for none
-abbrev pub ChecksAlone : Option Command → InputCounts → InputCounts → Type 0
-ChecksAlone (Some (Query action.Check name)) before after = OpenedAtMost 1 before after
-ChecksAlone (Some (Query action.Explain name)) before after = OpenedAtMost 1 before after
-ChecksAlone (Some (Trial number lines)) before after = LooksForNone before after
-ChecksAlone _ before after = Unit {0}
+-- one file was looked for at most: none was opened, or one and none was missing
+abbrev pub LooksForOne : Status → InputCounts → InputCounts → Type 0
+LooksForOne NoQuery before after = after.opened ≡ before.opened
+LooksForOne NoMemory before after =
+    OpenedAtMost 1 before after
+    × ((after.opened ≡ before.opened) ⊎ (after.misses ≡ before.misses))
+LooksForOne status before after =
+    OpenedAtMost 1 before after × (after.misses ≡ before.misses)
+
+-- `check` and `explain` look for no file but their query, and a trial for none
+abbrev pub ChecksAlone : Option Command → Status → InputCounts → InputCounts → Type 0
+ChecksAlone (Some (Query action.Check name)) status before after = LooksForOne status before after
+ChecksAlone (Some (Query action.Explain name)) status before after =
+    LooksForOne status before after
+ChecksAlone (Some (Trial number lines)) status before after = LooksForNone before after
+ChecksAlone _ status before after = Unit {0}
 
 -- a count of faults that did not rise
 abbrev pub Calm : ℕ → ℕ → Type 0
@@ -136,9 +164,16 @@ Calm before after = (after ≤ before) × (after < 2 ^ 64 - 1)
 abbrev pub Completes : Answer → Status → Type 0
 Completes a status = (status ≡ NoMemory) ⊎ (status ≡ a.status)
 
--- which files were looked for: with a refusal the query's alone, which was there; with a missing
--- query that one; without a command none
+-- a file was opened
+abbrev pub OpensRose : InputCounts → InputCounts → Type 0
+OpensRose before after = Rose before.opened after.opened
+
+-- which files were looked for: where a query ran the query's, which was there; with a refusal that
+-- one alone; with a missing query one alone, which was missing; without a command none
 abbrev pub OpensByStatus : Status → InputCounts → InputCounts → Type 0
+OpensByStatus Done before after = OpensRose before after
+OpensByStatus Raised before after = OpensRose before after
+OpensByStatus WriteFault before after = OpensRose before after
 OpensByStatus Refused before after =
     RoseByOne before.opened after.opened × (after.misses ≡ before.misses)
 OpensByStatus Usage before after = LooksForNone before after

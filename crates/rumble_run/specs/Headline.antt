@@ -5,8 +5,8 @@ use Rattle.outside.specs.Opens.{InputCounts}
 use Rattle.outside.specs.World.{World}
 use Rattle.rumble_run.specs.Answer.{OfAnswer}
 use Rattle.rumble_run.specs.Commands.{command_of}
-use Rattle.rumble_run.specs.Ends.{StatusBy, OutBy, err_by, HasText, Wrote, Calm, Completes, FaultsRose, MissesRose, OpensBy, OpenedBy, ChecksAlone, IsBalanced, NoCountFalls}
-use Rattle.rumble_run.specs.Opens.{OfOpened}
+use Rattle.rumble_run.specs.Ends.{StatusBy, OutBy, err_by, HasText, Wrote, Calm, Completes, FaultsRose, MissesRose, OpensBy, OpenedBy, MissedBy, ChecksAlone, IsBalanced, NoCountFalls}
+use Rattle.rumble_run.specs.Opens.{OfSearch}
 use Rattle.rumble_run.specs.Parts.{OfPartsAnswer, HasPartsText, parts_task, run_of_parts, output_parts, Written, PartsBy}
 use Rattle.rumble_run.specs.declared.status.Status.{Status}
 use Rattle.rumble_run.specs.declared.status.Status.TheVariants.{Usage, ReadFault, WriteFault, NoMemory, NoQuery}
@@ -21,6 +21,14 @@ pub record Looked : Type 0 where
   pub world : Option World
   pub counts : InputCounts
 
+-- both from their parts
+abbrev pub told : Option (List ℕ) → ℕ → Told
+told wrote faults = record { wrote = wrote; faults = faults }
+
+abbrev pub looked : Option World → InputCounts → Looked
+looked world counts = record { world = world; counts = counts }
+
+-- the clauses of `rumble`, each under its own name
 pub record RunsAsRumble (words : List (List ℕ)) (result : Status) (inputs inputs' : Looked)
     (out out' err err' : Told) : Type 0 where
   pub status : OfAnswer inputs.world words (λ answer. StatusBy answer result)
@@ -41,10 +49,12 @@ pub record RunsAsRumble (words : List (List ℕ)) (result : Status) (inputs inpu
       → (result ≡ ReadFault) ⊎ (result ≡ NoMemory)
   pub write_fault : result ≡ WriteFault → Rose out.faults out'.faults
   pub out_calm : result ≢ WriteFault → out'.faults ≡ out.faults
-  pub opened : OfOpened inputs.world words (λ files.
-      OpenedBy (length files) result inputs.counts inputs'.counts)
+  pub opened : OfSearch inputs.world (command_of words) (λ search.
+      OpenedBy (length search.files) result inputs.counts inputs'.counts)
+  pub missed : OfSearch inputs.world (command_of words) (λ search.
+      MissedBy (length search.missing) result inputs.counts inputs'.counts)
   pub opens : OpensBy (command_of words) result inputs.counts inputs'.counts
-  pub alone : ChecksAlone (command_of words) inputs.counts inputs'.counts
+  pub alone : ChecksAlone (command_of words) result inputs.counts inputs'.counts
   pub closed : IsBalanced inputs.counts inputs'.counts
   pub rises : NoCountFalls inputs.counts inputs'.counts
   pub world : inputs'.world ≡ inputs.world
@@ -70,6 +80,10 @@ pub record RunsParts (words : List (List ℕ)) (result : Status) (inputs inputs'
   pub read_fault : result ≡ ReadFault → FaultsRose inputs.counts inputs'.counts
   pub read_first : inputs.counts.faults < inputs'.counts.faults
       → (result ≡ ReadFault) ⊎ (result ≡ NoMemory)
+  pub opened : OfSearch inputs.world (run_of_parts (parts_task words)) (λ search.
+      OpenedBy (length search.files) result inputs.counts inputs'.counts)
+  pub missed : OfSearch inputs.world (run_of_parts (parts_task words)) (λ search.
+      MissedBy (length search.missing) result inputs.counts inputs'.counts)
   pub opens : OpensBy (run_of_parts (parts_task words)) result inputs.counts inputs'.counts
   pub closed : IsBalanced inputs.counts inputs'.counts
   pub rises : NoCountFalls inputs.counts inputs'.counts

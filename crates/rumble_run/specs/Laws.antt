@@ -1,9 +1,10 @@
 -- Laws of the definitions of what a command line comes to.
-use Rattle.std.specs.Prelude.{◌≡◌, ℕ, List}
+use Rattle.std.specs.Prelude.{◌≡◌, ℕ, List, Option}
 use Rattle.outside.specs.World.{World}
 use Rattle.rumble_run.specs.Front.{Front, IsFront}
 use Rattle.rumble_run.specs.Answer.{Answer, IsAnswer}
-use Rattle.rumble_run.specs.Opens.{IsOpened}
+use Rattle.rumble_run.specs.Opens.{Search, IsSearch}
+use Rattle.rumble_run.specs.declared.command.Command.{Command}
 
 -- a query has a front, and no other
 pub record HasOneFront (query : List ℕ) : Type 0 where
@@ -16,8 +17,8 @@ pub record HasOneAnswer (words : List (List ℕ)) (world : World) : Type 0 where
   pub only : (answer other : Answer) → IsAnswer words world answer → IsAnswer words world other
       → answer ≡ other
 
--- a command line opens some files over a world, and no others
-pub record OpensOneList (words : List (List ℕ)) (world : World) : Type 0 where
-  pub some : (files : List (List ℕ)) × IsOpened words world files
-  pub only : (files others : List (List ℕ)) → IsOpened words world files
-      → IsOpened words world others → files ≡ others
+-- a command looks for some files over a world, and for no others
+pub record HasOneSearch (command : Option Command) (world : World) : Type 0 where
+  pub some : (search : Search) × IsSearch command world search
+  pub only : (search other : Search) → IsSearch command world search
+      → IsSearch command world other → search ≡ other

@@ -1,5 +1,5 @@
 -- What a run comes to whose result is written as numbered parts, and what a call leaves of it.
-use Rattle.std.specs.Prelude.{◌≡◌, ◌≤◌, ◌⊎◌, ℕ, true, false, List, map, Option, None, Some, IfSome, codes}
+use Rattle.std.specs.Prelude.{◌≡◌, ◌≤◌, ◌⊎◌, ℕ, true, false, List, map, Option, None, Some, codes}
 use Rattle.std.specs.Str.{encode_utf8_all}
 use Rattle.outside.specs.Counted.{Rose, appended, CutShort}
 use Rattle.outside.specs.Outputs.{Made}
@@ -9,7 +9,7 @@ use Rattle.part_writer.specs.Parts.{parts_of}
 use Rattle.part_writer.specs.Written.{made_with, StopAtFault, StopForMemory}
 use Rattle.run_words.specs.PartsAsked.{begins_parts, parts_asked}
 use Rattle.run_words.specs.declared.task.PartsTask.{PartsTask}
-use Rattle.rumble_run.specs.Answer.{Answer, IsOfCommand, says}
+use Rattle.rumble_run.specs.Answer.{Answer, AnswersOver, IsOfCommand, says}
 use Rattle.rumble_run.specs.Ends.{HasText}
 use Rattle.rumble_run.specs.declared.status.Status.{Status}
 use Rattle.rumble_run.specs.declared.status.Status.TheVariants.{Done, Usage, WriteFault, NoMemory}
@@ -41,10 +41,11 @@ IsOfParts world (Some task) answer = IsOfCommand world (run_of_parts (Some task)
 unfoldable pub IsPartsAnswer : List (List ℕ) → World → Answer → Type 0
 IsPartsAnswer words world answer = IsOfParts world (parts_task words) answer
 
--- where the world is told, this holds of the answer
+-- this holds of the answer, where the world is told, or no file is read
 abbrev pub OfPartsAnswer : Option World → List (List ℕ) → (Answer → Type 0) → Type 0
-OfPartsAnswer world words Holds =
-    IfSome world (λ w. (answer : Answer) → IsPartsAnswer words w answer → Holds answer)
+OfPartsAnswer told words Holds =
+    (world : World) (answer : Answer) → AnswersOver told (run_of_parts (parts_task words)) world
+    → IsPartsAnswer words world answer → Holds answer
 
 -- the form of the text for the errors that a status has, whatever the world
 abbrev pub HasPartsText : Option PartsTask → List ℕ → Status → Type 0
@@ -65,6 +66,11 @@ pub record Written : Type 0 where
   pub faults : ℕ
   pub listed : Option (List ℕ)
   pub list_faults : ℕ
+
+-- the same from its parts
+abbrev pub written : Option Made → ℕ → Option (List ℕ) → ℕ → Written
+written made faults listed list_faults =
+    record { made = made; faults = faults; listed = listed; list_faults = list_faults }
 
 -- the list was not touched
 pub record IsUnlisted (before after : Written) : Type 0 where

@@ -3,6 +3,7 @@ pub mod Cuts
 pub mod Computed
 pub mod Reads
 pub mod Held
+pub mod Decided
 pub mod Seen
 pub mod Printing
 pub mod LoneInput

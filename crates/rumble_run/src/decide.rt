@@ -1,6 +1,6 @@
 //! What a command line evaluates to, before anything is written.
 
-ghost use Rattle.std.specs.Prelude.{◌≡◌, ◌≢◌, ℕ, List, None, Some, Ok, IfOk, IfErr, IfSome, length, string_bytes, IsErrOf};
+ghost use Rattle.std.specs.Prelude.{◌≡◌, ◌≢◌, None, Some, Ok, IfOk, IfErr, IfSome, string_bytes, IsErrOf};
 ghost use Rattle.query_meaning.specs.Outcome.{Outcome};
 ghost use Rattle.query_meaning.specs.Queries.{query_value};
 ghost use Rattle.query_meaning.specs.inside.Gives.{Gives};
@@ -8,14 +8,14 @@ ghost use Rattle.query_meaning.specs.inside.Views.{library_of, values_of};
 ghost use Rattle.query_tree.specs.Compiled.{bound_trees};
 ghost use Rattle.query_tree.specs.Inputs.{input_names};
 ghost use Rattle.outside.specs.World.{file_of};
-ghost use Rattle.rumble_run.specs.Answer.{IsAnswer, IsOfFile, IsOfQuery, IsOfTrial, of_outcome, usage};
+ghost use Rattle.rumble_run.specs.Answer.{IsOfFile, IsOfQuery, IsOfTrial, of_outcome, usage};
 ghost use Rattle.rumble_run.specs.Commands.{command_of, stats_of, ReadsNone};
 ghost use Rattle.rumble_run.specs.Ends.{OpensBy, OpensByStatus, ChecksAlone};
 ghost use Rattle.rumble_run.specs.Front.{Front, IsFront};
-ghost use Rattle.rumble_run.specs.Opens.{files_among, inputs_opened, OpensOfFile, OfOpened};
+ghost use Rattle.rumble_run.specs.Opens.{Search, search_among, inputs_search, SearchOfFile, OfSearch};
 ghost use Rattle.rumble_run.specs.inside.Computed.{of_run, of_executable};
-ghost use Rattle.rumble_run.specs.inside.Reads.{Leaves, OpenedTo};
-ghost use Rattle.rumble_run.specs.inside.Seen.{answer_of, IsShaped, IsOfStatus, LeavesRun, executable_of};
+ghost use Rattle.rumble_run.specs.inside.Reads.{Leaves, Searched};
+ghost use Rattle.rumble_run.specs.inside.Seen.{answer_of, decided_status, IsShaped, IsToldAnswer, IsOfStatus, LeavesRun, executable_of};
 
 use crate::command::{Action, Command, command_of};
 use crate::ending::Ending;
@@ -83,8 +83,8 @@ fn of_run<I: Inputs>(
     ensures shape { IfOk result (λ e.
         IsOfStatus stats e.out.items (string_bytes e.err) e.status) }
     ensures counts { LeavesRun result (I.counts inputs.old) (I.counts inputs.new) }
-    ensures opened { IfSome (I.world inputs.old) (λ w. OpenedTo result
-        (length (files_among w (input_names (bound_trees query.now.tree))))
+    ensures searched { IfSome (I.world inputs.old) (λ w. Searched result
+        (search_among w (input_names (bound_trees query.now.tree)))
         (I.counts inputs.old) (I.counts inputs.new)) }
 {
     let names = input_names(alloc, query.module())?;
@@ -111,11 +111,10 @@ fn of_executable<I: Inputs>(
     ensures shape { IfOk result (λ e.
         IsOfStatus (stats_of action) e.out.items (string_bytes e.err) e.status) }
     ensures counts { LeavesRun result (I.counts inputs.old) (I.counts inputs.new) }
-    ensures opened { IfSome (I.world inputs.old) (λ w. OpenedTo result
-        (length (inputs_opened action w (Ok (executable_of query.now)))) (I.counts inputs.old)
+    ensures searched { IfSome (I.world inputs.old) (λ w. Searched result
+        (inputs_search action w (Ok (executable_of query.now))) (I.counts inputs.old)
         (I.counts inputs.new)) }
-    ensures alone { ReadsNone action →
-        (I.counts inputs.new).opened ≡ (I.counts inputs.old).opened }
+    ensures alone { ReadsNone action → I.counts inputs.new ≡ I.counts inputs.old }
 {
     match action {
         Action::Run { stats } => {
@@ -140,11 +139,10 @@ fn of_query<I: Inputs>(
     ensures shape { IfOk result (λ e.
         IsOfStatus (stats_of action) e.out.items (string_bytes e.err) e.status) }
     ensures counts { LeavesRun result (I.counts inputs.old) (I.counts inputs.new) }
-    ensures opened { IfSome (I.world inputs.old) (λ w. (front : Front) → IsFront query.now front →
-        OpenedTo result (length (inputs_opened action w front)) (I.counts inputs.old)
-        (I.counts inputs.new)) }
-    ensures alone { ReadsNone action →
-        (I.counts inputs.new).opened ≡ (I.counts inputs.old).opened }
+    ensures searched { IfSome (I.world inputs.old) (λ w. (front : Front)
+        → IsFront query.now front → Searched result (inputs_search action w front)
+        (I.counts inputs.old) (I.counts inputs.new)) }
+    ensures alone { ReadsNone action → I.counts inputs.new ≡ I.counts inputs.old }
 {
     let text = without_mark(query);
     match front(alloc, query) {
@@ -173,11 +171,11 @@ pub(crate) fn of_file<I: Inputs>(
     ensures counts { Leaves result (I.counts inputs.old) (I.counts inputs.new) }
     ensures opens { IfOk result (λ e.
         OpensByStatus e.status (I.counts inputs.old) (I.counts inputs.new)) }
-    ensures opened { IfSome (I.world inputs.old) (λ w. (files : List (List ℕ))
-        → OpensOfFile action name.now w (file_of w name.now) files
-        → OpenedTo result (length files) (I.counts inputs.old) (I.counts inputs.new)) }
-    ensures alone { ChecksAlone (Some (Command.Query action name.now)) (I.counts inputs.old)
-        (I.counts inputs.new) }
+    ensures searched { IfSome (I.world inputs.old) (λ w. (search : Search)
+        → SearchOfFile action name.now w (file_of w name.now) search
+        → Searched result search (I.counts inputs.old) (I.counts inputs.new)) }
+    ensures alone { ChecksAlone (Some (Command.Query action name.now)) (decided_status result)
+        (I.counts inputs.old) (I.counts inputs.new) }
 {
     match read_named(alloc, inputs, name.as_str()) {
         Err(stop) => Err(stop),
@@ -210,17 +208,17 @@ pub(crate) fn decide<I: Inputs>(
 ) -> Result<Ending, Stop>
     ensures world { I.world inputs.new ≡ I.world inputs.old }
     ensures value { IfOk result
-        (λ e. IfSome (I.world inputs.old) (λ w. IsAnswer words.now w (answer_of e))) }
+        (λ e. IsToldAnswer (I.world inputs.old) words.now (answer_of e)) }
     ensures shape { IfOk result (λ e. IsShaped (command_of words.now) (answer_of e)) }
     ensures unread { IsErrOf result Stop.ReadFault → command_of words.now ≢ None }
     ensures usage { command_of words.now ≡ None → IfOk result (λ e. answer_of e ≡ usage) }
     ensures counts { Leaves result (I.counts inputs.old) (I.counts inputs.new) }
-    ensures opens { IfOk result (λ e.
-        OpensBy (command_of words.now) e.status (I.counts inputs.old) (I.counts inputs.new)) }
-    ensures opened { OfOpened (I.world inputs.old) words.now (λ files.
-        OpenedTo result (length files) (I.counts inputs.old) (I.counts inputs.new)) }
-    ensures alone { ChecksAlone (command_of words.now) (I.counts inputs.old)
-        (I.counts inputs.new) }
+    ensures opens { OpensBy (command_of words.now) (decided_status result)
+        (I.counts inputs.old) (I.counts inputs.new) }
+    ensures searched { OfSearch (I.world inputs.old) (command_of words.now) (λ search.
+        Searched result search (I.counts inputs.old) (I.counts inputs.new)) }
+    ensures alone { ChecksAlone (command_of words.now) (decided_status result)
+        (I.counts inputs.old) (I.counts inputs.new) }
 {
     match command_of(alloc, words)? {
         None => Ok(tells_usage(alloc)?),

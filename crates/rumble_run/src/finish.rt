@@ -1,11 +1,11 @@
-//! Writes an ending.
+//! What is told of an ending or of a stop, and how an ending is written.
 
-ghost use Rattle.std.specs.Prelude.{◌≡◌, string_bytes};
+ghost use Rattle.std.specs.Prelude.{◌≡◌, ℕ, List, string_bytes};
 ghost use Rattle.rumble_run.specs.Ends.{OutBy, err_by, Wrote};
-ghost use Rattle.rumble_run.specs.inside.Seen.{IsSilent, EndsAs};
+ghost use Rattle.rumble_run.specs.inside.Seen.{IsSilent, EndsAs, status_of_stop};
 
 use crate::ending::Ending;
-use crate::status::Status;
+use crate::status::{Status, Stop, status_of_stop};
 use outside::{Sink, write_all};
 
 /// Adds a text for the errors. Where this fails, nothing else changes.
@@ -14,6 +14,29 @@ pub(crate) fn tell<E: Sink>(err: &mut E, text: &str)
         (E.faults err.new) }
 {
     let _told = write_all(err, text.as_bytes());
+}
+
+/// The text for the errors: that of a fault or of want of memory, and else the ending's.
+pub(crate) fn text_by<'a>(text: &'a str, status: Status) -> &'a str
+    ensures { result.now ≡ err_by text.now status }
+{
+    match status {
+        Status::ReadFault => "read fault\n",
+        Status::WriteFault => "write fault\n",
+        Status::NoMemory => "no memory\n",
+        _ => text,
+    }
+}
+
+/// Tells why a call stopped, and answers the status of that.
+pub(crate) fn stopped<E: Sink>(stop: Stop, err: &mut E) -> Status
+    ensures status { result ≡ status_of_stop stop }
+    ensures text { (text : List ℕ) → Wrote (err_by text result) (E.wrote err.old) (E.wrote err.new)
+        (E.faults err.old) (E.faults err.new) }
+{
+    let status = status_of_stop(stop);
+    tell(err, text_by("", status));
+    status
 }
 
 /// Writes an ending without taking memory, and answers the status that it comes to.
@@ -25,7 +48,7 @@ pub(crate) fn finish<O: Sink, E: Sink>(ending: &Ending, out: &mut O, err: &mut E
         (E.wrote err.new) (E.faults err.old) (E.faults err.new) }
 {
     if write_all(out, &ending.out).is_err() {
-        tell(err, "write fault\n");
+        tell(err, text_by("", Status::WriteFault));
         return Status::WriteFault;
     }
     tell(err, ending.err.as_str());

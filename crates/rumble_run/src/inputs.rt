@@ -1,12 +1,12 @@
 //! What the inputs of a query hold: they are all read before anything is evaluated.
 
-ghost use Rattle.std.specs.Prelude.{◌≡◌, length, option_map, IfOk, IfSome};
+ghost use Rattle.std.specs.Prelude.{◌≡◌, option_map, IfOk, IfSome};
 ghost use Rattle.item_reader.specs.inside.Items.{items_of};
 ghost use Rattle.query_meaning.specs.inside.Computed.{inputs_of};
 ghost use Rattle.query_meaning.specs.inside.Views.{held_read, library_of};
-ghost use Rattle.rumble_run.specs.Opens.{files_among};
+ghost use Rattle.rumble_run.specs.Opens.{search_among};
 ghost use Rattle.rumble_run.specs.inside.Held.{entry, read_entry};
-ghost use Rattle.rumble_run.specs.inside.Reads.{Leaves, OpenedTo, files_of_name};
+ghost use Rattle.rumble_run.specs.inside.Reads.{Leaves, Searched, search_of_name};
 
 use crate::items::read_items;
 use crate::read::read_named;
@@ -49,8 +49,8 @@ fn read_input<I: Inputs>(
     ensures held { IfOk result (λ e. IfSome (I.world inputs.old) (λ w.
         entry e ≡ read_entry w name.now)) }
     ensures counts { Leaves result (I.counts inputs.old) (I.counts inputs.new) }
-    ensures opened { IfSome (I.world inputs.old) (λ w.
-        OpenedTo result (files_of_name w name.now) (I.counts inputs.old) (I.counts inputs.new)) }
+    ensures searched { IfSome (I.world inputs.old) (λ w. Searched result
+        (search_of_name w name.now) (I.counts inputs.old) (I.counts inputs.new)) }
 {
     let own = name.copy()?;
     let input = read_named(alloc, inputs, name.as_str())?;
@@ -69,9 +69,8 @@ pub(crate) fn read_inputs<I: Inputs>(
     ensures held { IfOk result (λ l.
         IfSome (I.world inputs.old) (λ w. library_of l ≡ inputs_of w names.now)) }
     ensures counts { Leaves result (I.counts inputs.old) (I.counts inputs.new) }
-    ensures opened { IfSome (I.world inputs.old) (λ w.
-        OpenedTo result (length (files_among w names.now)) (I.counts inputs.old)
-        (I.counts inputs.new)) }
+    ensures searched { IfSome (I.world inputs.old) (λ w. Searched result
+        (search_among w names.now) (I.counts inputs.old) (I.counts inputs.new)) }
 {
     let mut held: Vec<(Str, Held)> = Vec::new(alloc);
     let mut hasher = DefaultHasher::new();

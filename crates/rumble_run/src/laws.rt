@@ -1,12 +1,13 @@
 //! Laws of what a command line comes to. Each holds of all queries: a call brings it to a proof,
 //! and does nothing when it runs.
 
-ghost use Rattle.std.specs.Prelude.{◌≡◌, ◌<◌, ℕ, List};
+ghost use Rattle.std.specs.Prelude.{◌≡◌, ◌<◌, ℕ, List, Option};
 ghost use Rattle.item_tree.specs.Datum.{Datum};
 ghost use Rattle.part_writer.specs.Parts.{parts_of, joined};
 ghost use Rattle.rumble_run.specs.Answer.{output_of};
 ghost use Rattle.outside.specs.World.{World};
-ghost use Rattle.rumble_run.specs.Laws.{HasOneFront, HasOneAnswer, OpensOneList};
+ghost use Rattle.rumble_run.specs.Laws.{HasOneFront, HasOneAnswer, HasOneSearch};
+ghost use Rattle.rumble_run.specs.declared.command.Command.{Command};
 
 /// Every query has a front, a compiled tree or a refusal, and only one.
 pub fn one_front()
@@ -18,9 +19,9 @@ pub fn one_answer()
     ensures { (words : List (List ℕ)) → (world : World) → HasOneAnswer words world }
 {}
 
-/// Every command line opens some files over every world, and no others.
-pub fn opens_one_list()
-    ensures { (words : List (List ℕ)) → (world : World) → OpensOneList words world }
+/// Every command looks for some files over every world, and for no others.
+pub fn one_search()
+    ensures { (command : Option Command) → (world : World) → HasOneSearch command world }
 {}
 
 /// The parts of what is printed, put together in order, are what is printed, however many they are.

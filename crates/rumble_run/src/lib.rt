@@ -7,11 +7,11 @@ ghost use Rattle.std.specs.Str.{encode_utf8_all};
 ghost use Rattle.outside.specs.Counted.{Rose};
 ghost use Rattle.rumble_run.specs.Answer.{OfAnswer};
 ghost use Rattle.rumble_run.specs.Commands.{command_of};
-ghost use Rattle.rumble_run.specs.Ends.{StatusBy, OutBy, err_by, HasText, Wrote, Calm, Completes, FaultsRose, MissesRose, OpensBy, OpenedBy, ChecksAlone, IsBalanced, NoCountFalls};
+ghost use Rattle.rumble_run.specs.Ends.{StatusBy, OutBy, err_by, HasText, Wrote, Calm, Completes, FaultsRose, MissesRose, OpensBy, OpenedBy, MissedBy, ChecksAlone, IsBalanced, NoCountFalls};
 ghost use Rattle.run_words.specs.PartsAsked.{begins_parts};
-ghost use Rattle.rumble_run.specs.Headline.{RunsAsRumble, RunsParts};
-ghost use Rattle.rumble_run.specs.Parts.{AsksParts};
-ghost use Rattle.rumble_run.specs.Opens.{OfOpened};
+ghost use Rattle.rumble_run.specs.Headline.{RunsAsRumble, RunsParts, looked, told};
+ghost use Rattle.rumble_run.specs.Parts.{AsksParts, written};
+ghost use Rattle.rumble_run.specs.Opens.{OfSearch};
 
 mod command;
 mod decide;
@@ -31,10 +31,9 @@ mod status;
 mod telling;
 mod trial;
 
-use crate::decide::decide;
-use crate::finish::{finish, tell};
+use crate::finish::finish;
 use crate::parts::run_parts;
-use crate::status::Stop;
+use crate::preparing::prepared;
 use item_tree::Str;
 use outside::{Gate, Inputs, Outputs, Sink};
 pub use preparing::prepare;
@@ -58,7 +57,8 @@ pub fn rumble<R: Threads + Wait + Sync, I: Inputs, O: Sink, E: Sink, G: Gate>(
     err: &mut E,
     _gate: &G,
 ) -> Status
-    // Over inputs that tell their bytes, the run ends with the definition's answer.
+    // Over inputs that tell their bytes, and for a trial over all, the run ends with the
+    // definition's answer.
     ensures status { OfAnswer (I.world inputs.old) words.now (λ answer. StatusBy answer result) }
     ensures output { OfAnswer (I.world inputs.old) words.now (λ answer.
         OutBy answer.out result (O.wrote out.old) (O.wrote out.new)) }
@@ -88,28 +88,24 @@ pub fn rumble<R: Threads + Wait + Sync, I: Inputs, O: Sink, E: Sink, G: Gate>(
     ensures write_fault { result ≡ Status.WriteFault → Rose (O.faults out.old) (O.faults out.new) }
     ensures out_calm { result ≢ Status.WriteFault → O.faults out.new ≡ O.faults out.old }
 
-    // Which files were opened, and that each was closed: over inputs that tell their bytes the
-    // query's, and the input of each different name of its calls of `json-lines`.
-    ensures opened { OfOpened (I.world inputs.old) words.now (λ files.
-        OpenedBy (length files) result (I.counts inputs.old) (I.counts inputs.new)) }
+    // How many files were opened, how many were missing, and that each that was opened was closed:
+    // over inputs that tell their bytes the query's, and the input of each different name of its
+    // calls of `json-lines`.
+    ensures opened { OfSearch (I.world inputs.old) (command_of words.now) (λ search.
+        OpenedBy (length search.files) result (I.counts inputs.old) (I.counts inputs.new)) }
+    ensures missed { OfSearch (I.world inputs.old) (command_of words.now) (λ search.
+        MissedBy (length search.missing) result (I.counts inputs.old) (I.counts inputs.new)) }
     ensures opens { OpensBy (command_of words.now) result (I.counts inputs.old)
         (I.counts inputs.new) }
-    ensures alone { ChecksAlone (command_of words.now) (I.counts inputs.old)
+    ensures alone { ChecksAlone (command_of words.now) result (I.counts inputs.old)
         (I.counts inputs.new) }
     ensures closed { IsBalanced (I.counts inputs.old) (I.counts inputs.new) }
     ensures rises { NoCountFalls (I.counts inputs.old) (I.counts inputs.new) }
     ensures world { I.world inputs.new ≡ I.world inputs.old }
 {
-    match decide(alloc, words, inputs) {
+    match prepared(alloc, words, inputs, err) {
         Ok(ending) => finish(&ending, out, err),
-        Err(Stop::ReadFault) => {
-            tell(err, "read fault\n");
-            Status::ReadFault
-        }
-        Err(Stop::NoMemory) => {
-            tell(err, "no memory\n");
-            Status::NoMemory
-        }
+        Err(status) => status,
     }
 }
 
@@ -129,33 +125,20 @@ pub fn rumble_parts<R: Threads + Wait + Sync, I: Inputs, P: Outputs, O: Sink, E:
     // Words of any other command: all clauses of `rumble`, and no part is made.
     ensures others { begins_parts (map encode_utf8_all words.now) ≡ false →
         RunsAsRumble words.now result
-        (record { world = I.world inputs.old; counts = I.counts inputs.old })
-        (record { world = I.world inputs.new; counts = I.counts inputs.new })
-        (record { wrote = O.wrote out.old; faults = O.faults out.old })
-        (record { wrote = O.wrote out.new; faults = O.faults out.new })
-        (record { wrote = E.wrote err.old; faults = E.faults err.old })
-        (record { wrote = E.wrote err.new; faults = E.faults err.new }) }
+        (looked (I.world inputs.old) (I.counts inputs.old))
+        (looked (I.world inputs.new) (I.counts inputs.new))
+        (told (O.wrote out.old) (O.faults out.old)) (told (O.wrote out.new) (O.faults out.new))
+        (told (E.wrote err.old) (E.faults err.old)) (told (E.wrote err.new) (E.faults err.new)) }
     ensures unmade { begins_parts (map encode_utf8_all words.now) ≡ false →
         outputs.new ≡ outputs.old }
 
     // A run with parts: the answer is that of the run, and its output stands in the parts.
     ensures parts { AsksParts words.now → RunsParts words.now result
-        (record { world = I.world inputs.old; counts = I.counts inputs.old })
-        (record { world = I.world inputs.new; counts = I.counts inputs.new })
-        (record {
-          made = P.made outputs.old;
-          faults = P.faults outputs.old;
-          listed = O.wrote out.old;
-          list_faults = O.faults out.old;
-        })
-        (record {
-          made = P.made outputs.new;
-          faults = P.faults outputs.new;
-          listed = O.wrote out.new;
-          list_faults = O.faults out.new;
-        })
-        (record { wrote = E.wrote err.old; faults = E.faults err.old })
-        (record { wrote = E.wrote err.new; faults = E.faults err.new }) }
+        (looked (I.world inputs.old) (I.counts inputs.old))
+        (looked (I.world inputs.new) (I.counts inputs.new))
+        (written (P.made outputs.old) (P.faults outputs.old) (O.wrote out.old) (O.faults out.old))
+        (written (P.made outputs.new) (P.faults outputs.new) (O.wrote out.new) (O.faults out.new))
+        (told (E.wrote err.old) (E.faults err.old)) (told (E.wrote err.new) (E.faults err.new)) }
     ensures balanced { P.created outputs.new + P.finished outputs.old
         ≡ P.created outputs.old + P.finished outputs.new }
 {

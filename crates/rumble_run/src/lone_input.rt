@@ -9,7 +9,7 @@ ghost use Rattle.query_tree.specs.Compiled.{bound_trees};
 ghost use Rattle.query_tree.specs.declared.bound.Target.TheVariants.{Lines};
 ghost use Rattle.rumble_run.specs.Answer.{of_outcome};
 ghost use Rattle.rumble_run.specs.inside.LoneInput.{IsCallOf, IsLoneInput, lone_value};
-ghost use Rattle.rumble_run.specs.inside.Reads.{OpenedTo, files_of_name};
+ghost use Rattle.rumble_run.specs.inside.Reads.{Searched, search_of_name};
 ghost use Rattle.rumble_run.specs.inside.Seen.{answer_of, IsOfStatus, LeavesRun};
 
 use crate::ending::Ending;
@@ -106,8 +106,8 @@ pub(crate) fn of_lone_input<I: Inputs>(
     ensures shape { IfOk result (λ e.
         IsOfStatus stats e.out.items (string_bytes e.err) e.status) }
     ensures counts { LeavesRun result (I.counts inputs.old) (I.counts inputs.new) }
-    ensures opened { IfSome (I.world inputs.old) (λ w.
-        OpenedTo result (files_of_name w name.now) (I.counts inputs.old) (I.counts inputs.new)) }
+    ensures searched { IfSome (I.world inputs.old) (λ w. Searched result
+        (search_of_name w name.now) (I.counts inputs.old) (I.counts inputs.new)) }
 {
     let input = read_named(alloc, inputs, name.as_str())?;
     let ending = of_bytes(alloc, stats, text, input, place)?;

@@ -1,18 +1,20 @@
 //! Runs whose result is written as numbered parts.
 
-ghost use Rattle.std.specs.Prelude.{◌≡◌, ◌≢◌, ◌≤◌, ◌<◌, ◌+◌, ◌⊎◌, ℕ, List, All, None, Some, length, IfOk, IfSome, IsErrOf, string_bytes};
+ghost use Rattle.std.specs.Prelude.{◌≡◌, ◌≢◌, ◌≤◌, ◌+◌, All, None, length, IfOk, IfSome, IsErrOf, string_bytes};
 ghost use Rattle.part_list.specs.Lists.{list_of};
 ghost use Rattle.part_writer.specs.Parts.{parts_from, parts_of, IsRangeOf};
-ghost use Rattle.rumble_run.specs.Ends.{StatusBy, Completes, Calm, FaultsRose, MissesRose, NoCountFalls, IsBalanced, err_by, Wrote, OpensBy};
-ghost use Rattle.rumble_run.specs.Parts.{IsPartsAnswer, OfPartsAnswer, HasPartsText, parts_task, parts_count, parts_usage, output_parts, run_of_parts, PartsBy};
-ghost use Rattle.rumble_run.specs.inside.Parted.{IsPartsShaped, IsWriting, PartsEnd};
-ghost use Rattle.rumble_run.specs.inside.Reads.{Leaves};
+ghost use Rattle.rumble_run.specs.Ends.{err_by, Wrote, OpensBy};
+ghost use Rattle.rumble_run.specs.Headline.{RunsParts, looked, told};
+ghost use Rattle.rumble_run.specs.Opens.{OfSearch};
+ghost use Rattle.rumble_run.specs.Parts.{parts_task, parts_count, parts_usage, run_of_parts, written, PartsBy};
+ghost use Rattle.rumble_run.specs.inside.Parted.{IsPartsShaped, IsToldParts, IsWriting, PartsEnd, parted_status};
+ghost use Rattle.rumble_run.specs.inside.Reads.{Leaves, Searched};
 ghost use Rattle.rumble_run.specs.inside.Seen.{answer_of, IsSilent};
 
 use crate::command::Action;
 use crate::decide::of_file;
 use crate::ending::Ending;
-use crate::finish::tell;
+use crate::finish::{stopped, tell, text_by};
 use crate::status::{Status, Stop};
 use crate::telling::tells_parts_usage;
 use item_tree::{NoMemory, Str};
@@ -49,8 +51,8 @@ pub(crate) fn decide_parts<I: Inputs>(
     inputs: &mut I,
 ) -> Result<Parted, Stop>
     ensures world { I.world inputs.new ≡ I.world inputs.old }
-    ensures value { IfOk result (λ p. IfSome (I.world inputs.old) (λ w.
-        IsPartsAnswer words.now w (answer_of p.ending))) }
+    ensures value { IfOk result
+        (λ p. IsToldParts (I.world inputs.old) words.now (answer_of p.ending)) }
     ensures count { IfOk result (λ p. p.count ≡ parts_count (parts_task words.now)) }
     ensures some { IfOk result (λ p. 1 ≤ p.count) }
     ensures most { IfOk result (λ p. p.count ≤ 1000) }
@@ -60,8 +62,10 @@ pub(crate) fn decide_parts<I: Inputs>(
     ensures usage { parts_task words.now ≡ None →
         IfOk result (λ p. answer_of p.ending ≡ parts_usage) }
     ensures counts { Leaves result (I.counts inputs.old) (I.counts inputs.new) }
-    ensures opens { IfOk result (λ p. OpensBy (run_of_parts (parts_task words.now)) p.ending.status
-        (I.counts inputs.old) (I.counts inputs.new)) }
+    ensures opens { OpensBy (run_of_parts (parts_task words.now)) (parted_status result)
+        (I.counts inputs.old) (I.counts inputs.new) }
+    ensures searched { OfSearch (I.world inputs.old) (run_of_parts (parts_task words.now))
+        (λ search. Searched result search (I.counts inputs.old) (I.counts inputs.new)) }
 {
     match task_asked(alloc, words)? {
         None => {
@@ -93,18 +97,8 @@ fn write_listed<P: Outputs, O: Sink>(
     requires within { All (IsRangeOf text.now) ranges.now }
     requires list { list.now ≡ list_of (parts_from 0 text.now ranges.now) }
     ensures parts { PartsBy (parts_from 0 text.now ranges.now) result
-        (record {
-          made = P.made outputs.old;
-          faults = P.faults outputs.old;
-          listed = O.wrote out.old;
-          list_faults = O.faults out.old;
-        })
-        (record {
-          made = P.made outputs.new;
-          faults = P.faults outputs.new;
-          listed = O.wrote out.new;
-          list_faults = O.faults out.new;
-        }) }
+        (written (P.made outputs.old) (P.faults outputs.old) (O.wrote out.old) (O.faults out.old))
+        (written (P.made outputs.new) (P.faults outputs.new) (O.wrote out.new) (O.faults out.new)) }
     ensures writing { IsWriting result }
     ensures balanced { P.created outputs.new + P.finished outputs.old
         ≡ P.created outputs.old + P.finished outputs.new }
@@ -148,18 +142,8 @@ fn write_output<P: Outputs, O: Sink>(
     requires some { 1 ≤ count }
     requires most { count ≤ 1000 }
     ensures parts { PartsBy (parts_of count text.now) result
-        (record {
-          made = P.made outputs.old;
-          faults = P.faults outputs.old;
-          listed = O.wrote out.old;
-          list_faults = O.faults out.old;
-        })
-        (record {
-          made = P.made outputs.new;
-          faults = P.faults outputs.new;
-          listed = O.wrote out.new;
-          list_faults = O.faults out.new;
-        }) }
+        (written (P.made outputs.old) (P.faults outputs.old) (O.wrote out.old) (O.faults out.old))
+        (written (P.made outputs.new) (P.faults outputs.new) (O.wrote out.new) (O.faults out.new)) }
     ensures writing { IsWriting result }
     ensures balanced { P.created outputs.new + P.finished outputs.old
         ≡ P.created outputs.old + P.finished outputs.new }
@@ -167,18 +151,6 @@ fn write_output<P: Outputs, O: Sink>(
     match cut_and_list(alloc, text, count) {
         Ok((ranges, list)) => write_listed(text, &ranges, &list, outputs, out),
         Err(NoMemory) => Status::NoMemory,
-    }
-}
-
-// The text for the errors, given the ending's.
-fn err_of<'a>(text: &'a str, status: Status) -> &'a str
-    ensures { result.now ≡ err_by text.now status }
-{
-    match status {
-        Status::ReadFault => "read fault\n",
-        Status::WriteFault => "write fault\n",
-        Status::NoMemory => "no memory\n",
-        _ => text,
     }
 }
 
@@ -195,18 +167,8 @@ pub(crate) fn finish_parts<P: Outputs, O: Sink, E: Sink>(
     requires silent { IsSilent parted.now.ending.out.items parted.now.ending.status }
     ensures status { PartsEnd parted.now.ending.status result }
     ensures parts { PartsBy (parts_of parted.now.count parted.now.ending.out.items) result
-        (record {
-          made = P.made outputs.old;
-          faults = P.faults outputs.old;
-          listed = O.wrote out.old;
-          list_faults = O.faults out.old;
-        })
-        (record {
-          made = P.made outputs.new;
-          faults = P.faults outputs.new;
-          listed = O.wrote out.new;
-          list_faults = O.faults out.new;
-        }) }
+        (written (P.made outputs.old) (P.faults outputs.old) (O.wrote out.old) (O.faults out.old))
+        (written (P.made outputs.new) (P.faults outputs.new) (O.wrote out.new) (O.faults out.new)) }
     ensures text { Wrote (err_by (string_bytes parted.now.ending.err) result) (E.wrote err.old)
         (E.wrote err.new) (E.faults err.old) (E.faults err.new) }
     ensures balanced { P.created outputs.new + P.finished outputs.old
@@ -216,7 +178,7 @@ pub(crate) fn finish_parts<P: Outputs, O: Sink, E: Sink>(
         Status::Done => write_output(alloc, &parted.ending.out, parted.count, outputs, out),
         status => status,
     };
-    tell(err, err_of(parted.ending.err.as_str(), status));
+    tell(err, text_by(parted.ending.err.as_str(), status));
     status
 }
 
@@ -229,73 +191,17 @@ pub(crate) fn run_parts<I: Inputs, P: Outputs, O: Sink, E: Sink>(
     out: &mut O,
     err: &mut E,
 ) -> Status
-    ensures status { OfPartsAnswer (I.world inputs.old) words.now (λ answer.
-        StatusBy answer result) }
-    ensures parts { OfPartsAnswer (I.world inputs.old) words.now (λ answer.
-        PartsBy (output_parts words.now answer.out) result
-        (record {
-          made = P.made outputs.old;
-          faults = P.faults outputs.old;
-          listed = O.wrote out.old;
-          list_faults = O.faults out.old;
-        })
-        (record {
-          made = P.made outputs.new;
-          faults = P.faults outputs.new;
-          listed = O.wrote out.new;
-          list_faults = O.faults out.new;
-        })) }
-    ensures text { OfPartsAnswer (I.world inputs.old) words.now (λ answer.
-        Wrote (err_by answer.err result) (E.wrote err.old) (E.wrote err.new)
-        (E.faults err.old) (E.faults err.new)) }
-    ensures completes { Calm (I.counts inputs.old).faults (I.counts inputs.new).faults
-        → Calm (P.faults outputs.old) (P.faults outputs.new)
-        → Calm (O.faults out.old) (O.faults out.new)
-        → OfPartsAnswer (I.world inputs.old) words.now (λ answer. Completes answer result) }
-
-    ensures untold_parts { (bytes : List ℕ) × PartsBy (output_parts words.now bytes) result
-        (record {
-          made = P.made outputs.old;
-          faults = P.faults outputs.old;
-          listed = O.wrote out.old;
-          list_faults = O.faults out.old;
-        })
-        (record {
-          made = P.made outputs.new;
-          faults = P.faults outputs.new;
-          listed = O.wrote out.new;
-          list_faults = O.faults out.new;
-        }) }
-    ensures untold_text { (text : List ℕ) × HasPartsText (parts_task words.now) text result
-        × Wrote text (E.wrote err.old) (E.wrote err.new) (E.faults err.old) (E.faults err.new) }
-
-    ensures usage { result ≡ Status.Usage → parts_task words.now ≡ None }
-    ensures only_usage { parts_task words.now ≡ None →
-        (result ≡ Status.Usage) ⊎ (result ≡ Status.NoMemory) }
-    ensures no_query { result ≡ Status.NoQuery →
-        MissesRose (I.counts inputs.old) (I.counts inputs.new) }
-    ensures read_fault { result ≡ Status.ReadFault →
-        FaultsRose (I.counts inputs.old) (I.counts inputs.new) }
-    ensures read_first { (I.counts inputs.old).faults < (I.counts inputs.new).faults →
-        (result ≡ Status.ReadFault) ⊎ (result ≡ Status.NoMemory) }
-
-    ensures opens { OpensBy (run_of_parts (parts_task words.now)) result (I.counts inputs.old)
-        (I.counts inputs.new) }
-    ensures closed { IsBalanced (I.counts inputs.old) (I.counts inputs.new) }
-    ensures rises { NoCountFalls (I.counts inputs.old) (I.counts inputs.new) }
-    ensures world { I.world inputs.new ≡ I.world inputs.old }
+    ensures parts { RunsParts words.now result
+        (looked (I.world inputs.old) (I.counts inputs.old))
+        (looked (I.world inputs.new) (I.counts inputs.new))
+        (written (P.made outputs.old) (P.faults outputs.old) (O.wrote out.old) (O.faults out.old))
+        (written (P.made outputs.new) (P.faults outputs.new) (O.wrote out.new) (O.faults out.new))
+        (told (E.wrote err.old) (E.faults err.old)) (told (E.wrote err.new) (E.faults err.new)) }
     ensures balanced { P.created outputs.new + P.finished outputs.old
         ≡ P.created outputs.old + P.finished outputs.new }
 {
     match decide_parts(alloc, words, inputs) {
         Ok(parted) => finish_parts(alloc, &parted, outputs, out, err),
-        Err(Stop::ReadFault) => {
-            tell(err, "read fault\n");
-            Status::ReadFault
-        }
-        Err(Stop::NoMemory) => {
-            tell(err, "no memory\n");
-            Status::NoMemory
-        }
+        Err(stop) => stopped(stop, err),
     }
 }

@@ -1,21 +1,58 @@
 //! The output of a command line, before any of it is written.
 
-ghost use Rattle.std.specs.Prelude.{◌≡◌, ◌≢◌, ◌<◌, ◌⊎◌, ℕ, List, None, IfOk, IfErr, OnOk, string_bytes};
-ghost use Rattle.rumble_run.specs.Answer.{OfAnswer};
+ghost use Rattle.std.specs.Prelude.{◌≡◌, ◌≢◌, ◌<◌, ◌⊎◌, ℕ, List, None, length, IfOk, IfErr, OnOk, string_bytes};
+ghost use Rattle.rumble_run.specs.Answer.{OfAnswer, usage};
 ghost use Rattle.rumble_run.specs.Commands.{command_of};
-ghost use Rattle.rumble_run.specs.Ends.{StatusBy, err_by, HasText, Wrote, FaultsRose, MissesRose, OpensBy, ChecksAlone, IsBalanced, NoCountFalls};
+ghost use Rattle.rumble_run.specs.Ends.{StatusBy, err_by, HasText, Wrote, Calm, Completes, FaultsRose, MissesRose, OpensBy, OpenedBy, MissedBy, ChecksAlone, IsBalanced, NoCountFalls};
+ghost use Rattle.rumble_run.specs.Opens.{OfSearch};
 ghost use Rattle.rumble_run.specs.Prepared.{status_of};
-ghost use Rattle.rumble_run.specs.inside.Seen.{answer_of, IsSilent};
+ghost use Rattle.rumble_run.specs.inside.Decided.{ended, IsStop, FaultsBy, SearchedBy};
+ghost use Rattle.rumble_run.specs.inside.Seen.{answer_of, IsShaped, IsToldAnswer};
 
 use crate::decide::decide;
 use crate::ending::Ending;
-use crate::finish::tell;
-use crate::status::{Status, Stop};
+use crate::finish::{stopped, tell};
+use crate::status::Status;
 use item_tree::Str;
 use outside::{Gate, Inputs, Sink};
 use std::alloc::Global;
 use std::sync::Wait;
 use std::thread::Threads;
+
+/// What the words come to, decided before anything is written; or, where that stopped, the status
+/// of the stop, with its text on `err`.
+pub(crate) fn prepared<I: Inputs, E: Sink>(
+    alloc: Global,
+    words: &[Str],
+    inputs: &mut I,
+    err: &mut E,
+) -> Result<Ending, Status>
+    ensures world { I.world inputs.new ≡ I.world inputs.old }
+    ensures value { IfOk result
+        (λ e. IsToldAnswer (I.world inputs.old) words.now (answer_of e)) }
+    ensures shape { IfOk result (λ e. IsShaped (command_of words.now) (answer_of e)) }
+    ensures usage { command_of words.now ≡ None → IfOk result (λ e. answer_of e ≡ usage) }
+    ensures only { command_of words.now ≡ None → IfErr result (λ s. s ≡ Status.NoMemory) }
+    ensures stop { IfErr result IsStop }
+    ensures told { IfErr result (λ s. (text : List ℕ) → Wrote (err_by text s) (E.wrote err.old)
+        (E.wrote err.new) (E.faults err.old) (E.faults err.new)) }
+    ensures untold { OnOk result ((E.wrote err.new ≡ E.wrote err.old)
+        × (E.faults err.new ≡ E.faults err.old)) }
+    ensures cause { FaultsBy result (I.counts inputs.old).faults (I.counts inputs.new).faults }
+    ensures opens { OpensBy (command_of words.now) (ended result) (I.counts inputs.old)
+        (I.counts inputs.new) }
+    ensures alone { ChecksAlone (command_of words.now) (ended result) (I.counts inputs.old)
+        (I.counts inputs.new) }
+    ensures searched { OfSearch (I.world inputs.old) (command_of words.now) (λ search.
+        SearchedBy search (ended result) (I.counts inputs.old) (I.counts inputs.new)) }
+    ensures closed { IsBalanced (I.counts inputs.old) (I.counts inputs.new) }
+    ensures rises { NoCountFalls (I.counts inputs.old) (I.counts inputs.new) }
+{
+    match decide(alloc, words, inputs) {
+        Ok(ending) => Ok(ending),
+        Err(stop) => Err(stopped(stop, err)),
+    }
+}
 
 // Hands out the output of an ending that is done, and tells any other.
 fn settle<E: Sink>(ending: Ending, err: &mut E) -> Result<Vec<u8>, Status>
@@ -56,6 +93,9 @@ pub fn prepare<R: Threads + Wait + Sync, I: Inputs, E: Sink, G: Gate>(
     ensures text { OfAnswer (I.world inputs.old) words.now (λ answer. IfErr result (λ status.
         Wrote (err_by answer.err status) (E.wrote err.old) (E.wrote err.new)
         (E.faults err.old) (E.faults err.new))) }
+    ensures completes { Calm (I.counts inputs.old).faults (I.counts inputs.new).faults
+        → OfAnswer (I.world inputs.old) words.now (λ answer.
+        Completes answer (status_of result)) }
     ensures untold { OnOk result ((E.wrote err.new ≡ E.wrote err.old)
         × (E.faults err.new ≡ E.faults err.old)) }
     ensures untold_text { IfErr result (λ status. (text : List ℕ)
@@ -65,6 +105,8 @@ pub fn prepare<R: Threads + Wait + Sync, I: Inputs, E: Sink, G: Gate>(
     ensures never { IfErr result (λ status. (status ≢ Status.Done)
         × (status ≢ Status.WriteFault)) }
     ensures usage { status_of result ≡ Status.Usage → command_of words.now ≡ None }
+    ensures only_usage { command_of words.now ≡ None →
+        (status_of result ≡ Status.Usage) ⊎ (status_of result ≡ Status.NoMemory) }
     ensures no_query { status_of result ≡ Status.NoQuery →
         MissesRose (I.counts inputs.old) (I.counts inputs.new) }
     ensures read_fault { status_of result ≡ Status.ReadFault →
@@ -72,23 +114,22 @@ pub fn prepare<R: Threads + Wait + Sync, I: Inputs, E: Sink, G: Gate>(
     ensures read_first { (I.counts inputs.old).faults < (I.counts inputs.new).faults →
         (status_of result ≡ Status.ReadFault) ⊎ (status_of result ≡ Status.NoMemory) }
 
+    ensures opened { OfSearch (I.world inputs.old) (command_of words.now) (λ search.
+        OpenedBy (length search.files) (status_of result) (I.counts inputs.old)
+        (I.counts inputs.new)) }
+    ensures missed { OfSearch (I.world inputs.old) (command_of words.now) (λ search.
+        MissedBy (length search.missing) (status_of result) (I.counts inputs.old)
+        (I.counts inputs.new)) }
     ensures opens { OpensBy (command_of words.now) (status_of result) (I.counts inputs.old)
         (I.counts inputs.new) }
-    ensures alone { ChecksAlone (command_of words.now) (I.counts inputs.old)
+    ensures alone { ChecksAlone (command_of words.now) (status_of result) (I.counts inputs.old)
         (I.counts inputs.new) }
     ensures closed { IsBalanced (I.counts inputs.old) (I.counts inputs.new) }
     ensures rises { NoCountFalls (I.counts inputs.old) (I.counts inputs.new) }
     ensures world { I.world inputs.new ≡ I.world inputs.old }
 {
-    match decide(alloc, words, inputs) {
+    match prepared(alloc, words, inputs, err) {
         Ok(ending) => settle(ending, err),
-        Err(Stop::ReadFault) => {
-            tell(err, "read fault\n");
-            Err(Status::ReadFault)
-        }
-        Err(Stop::NoMemory) => {
-            tell(err, "no memory\n");
-            Err(Status::NoMemory)
-        }
+        Err(status) => Err(status),
     }
 }

@@ -3,7 +3,7 @@
 ghost use Rattle.std.specs.Prelude.{◌≡◌, IfOk, IfSome, option_map};
 ghost use Rattle.std.specs.Str.{chars};
 ghost use Rattle.outside.specs.World.{file_of};
-ghost use Rattle.rumble_run.specs.inside.Reads.{LeavesRead, OpenedTo, files_of_name};
+ghost use Rattle.rumble_run.specs.inside.Reads.{LeavesRead, Searched, search_of_name};
 
 use crate::status::Stop;
 use line_pieces::{PieceFault, read_whole};
@@ -20,8 +20,8 @@ pub(crate) fn read_named<I: Inputs>(
     ensures bytes { IfOk result (λ o. IfSome (I.world inputs.old) (λ w.
         option_map (λ v. v.items) o ≡ file_of w (chars name.now))) }
     ensures counts { LeavesRead result (I.counts inputs.old) (I.counts inputs.new) }
-    ensures opened { IfSome (I.world inputs.old) (λ w. OpenedTo result
-        (files_of_name w (chars name.now)) (I.counts inputs.old) (I.counts inputs.new)) }
+    ensures searched { IfSome (I.world inputs.old) (λ w. Searched result
+        (search_of_name w (chars name.now)) (I.counts inputs.old) (I.counts inputs.new)) }
 {
     match inputs.open_file(name) {
         Ok(mut file) => {

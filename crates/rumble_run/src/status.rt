@@ -1,4 +1,7 @@
-//! The statuses of a run.
+//! How a call ends, and why it stops before it has an answer.
+
+ghost use Rattle.std.specs.Prelude.{◌≡◌};
+ghost use Rattle.rumble_run.specs.inside.Seen.{status_of_stop};
 
 /// How a call of the program ended.
 #[derive(Clone, Copy, Debug, PartialEq, Eq)]
@@ -25,4 +28,14 @@ pub enum Status {
 pub(crate) enum Stop {
     ReadFault,
     NoMemory,
+}
+
+/// The status that a stop is answered by.
+pub(crate) fn status_of_stop(stop: Stop) -> Status
+    ensures { result ≡ status_of_stop stop }
+{
+    match stop {
+        Stop::ReadFault => Status::ReadFault,
+        Stop::NoMemory => Status::NoMemory,
+    }
 }

@@ -1,9 +1,10 @@
 -- What a read through the inputs leaves.
-use Rattle.std.specs.Prelude.{◌≡◌, ◌≤◌, ◌+◌, ℕ, List, Option, None, Some, is_some, if◌then◌else◌, Result, Ok, Err}
+use Rattle.std.specs.Prelude.{◌≡◌, ◌≤◌, ◌+◌, ℕ, List, [], ◌∷◌, length, Option, None, Some, Result, Ok, Err}
 use Rattle.outside.specs.Counted.{Rose, Rises, RoseByOne}
 use Rattle.outside.specs.Opens.{InputCounts}
-use Rattle.outside.specs.World.{World, file_of}
-use Rattle.rumble_run.specs.Ends.{NoCountFalls, IsBalanced, OpenedAtMost, OpenedJust}
+use Rattle.outside.specs.World.{World}
+use Rattle.rumble_run.specs.Ends.{NoCountFalls, IsBalanced, OpenedAtMost, OpenedJust, MissedAtMost, MissedJust}
+use Rattle.rumble_run.specs.Opens.{Search, search_among}
 use Rattle.rumble_run.specs.declared.status.Stop.{Stop}
 use Rattle.rumble_run.specs.declared.status.Stop.TheVariants.{ReadFault}
 
@@ -20,9 +21,9 @@ pub record Leaves {T : Type 0} (result : Result T Stop) (before after : InputCou
   pub balanced : IsBalanced before after
 
 -- the misses rise where there was no such file, and else stay
-abbrev pub MissedBy : {T : Type 0} → Result (Option T) Stop → ℕ → ℕ → Type 0
-MissedBy (Ok None) before after = Rises before after
-MissedBy _ before after = after ≡ before
+abbrev pub MissedOne : {T : Type 0} → Result (Option T) Stop → ℕ → ℕ → Type 0
+MissedOne (Ok None) before after = Rises before after
+MissedOne _ before after = after ≡ before
 
 -- a file was opened where its bytes were read, and none where there was no such file
 abbrev pub OpenedOne : {T : Type 0} → Result (Option T) Stop → ℕ → ℕ → Type 0
@@ -34,14 +35,25 @@ OpenedOne (Err stop) before after = after ≤ before + 1
 pub record LeavesRead {T : Type 0} (result : Result (Option T) Stop) (before after : InputCounts)
     : Type 0 where
   pub leaves : Leaves result before after
-  pub missed : MissedBy result before.misses after.misses
+  pub missed : MissedOne result before.misses after.misses
   pub opened : OpenedOne result before.opened after.opened
 
--- how many files there are of this name
-abbrev pub files_of_name : World → List ℕ → ℕ
-files_of_name world name = if is_some (file_of world name) then 1 else 0
+-- a name that is looked for
+abbrev pub search_of_name : World → List ℕ → Search
+search_of_name world name = search_among world (name ∷ [])
 
--- of so many files each was opened, or, where the call stopped, some were
-abbrev pub OpenedTo : {T : Type 0} → Result T Stop → ℕ → InputCounts → InputCounts → Type 0
-OpenedTo (Ok x) n before after = OpenedJust n before after
-OpenedTo (Err stop) n before after = OpenedAtMost n before after
+-- the search was gone through
+abbrev pub SearchedAll : Search → InputCounts → InputCounts → Type 0
+SearchedAll search before after =
+    OpenedJust (length search.files) before after × MissedJust (length search.missing) before after
+
+-- some of it was
+abbrev pub SearchedSome : Search → InputCounts → InputCounts → Type 0
+SearchedSome search before after =
+    OpenedAtMost (length search.files) before after
+    × MissedAtMost (length search.missing) before after
+
+-- the search was gone through, or, where the call stopped, some of it was
+abbrev pub Searched : {T : Type 0} → Result T Stop → Search → InputCounts → InputCounts → Type 0
+Searched (Ok x) search before after = SearchedAll search before after
+Searched (Err stop) search before after = SearchedSome search before after

@@ -2,8 +2,10 @@
 use Rattle.std.specs.Prelude.{◌≡◌, ℕ, Bool, List, [], Option, None, Some, Result, Ok, Err, IfOk, string_bytes}
 use Rattle.outside.specs.Counted.{Rose}
 use Rattle.outside.specs.Opens.{InputCounts}
+use Rattle.outside.specs.World.{World}
 use Rattle.query_tree.specs.Compiled.{CompiledTree, bound_trees}
-use Rattle.rumble_run.specs.Answer.{Answer}
+use Rattle.rumble_run.specs.Answer.{Answer, AnswersOver, IsAnswer}
+use Rattle.rumble_run.specs.Commands.{command_of}
 use Rattle.rumble_run.specs.Ends.{HasText, LooksForNone, TellsStats}
 use Rattle.rumble_run.specs.Front.{Executable, Front}
 use Rattle.rumble_run.specs.declared.front.FrontFault.{FrontFault}
@@ -11,6 +13,7 @@ use Rattle.rumble_run.specs.declared.front.FrontFault.TheVariants as front
 use Rattle.rumble_run.specs.inside.Reads.{Leaves}
 use Rattle.rumble_run.specs.declared.status.Status.{Status}
 use Rattle.rumble_run.specs.declared.status.Stop.{Stop}
+use Rattle.rumble_run.specs.declared.status.Stop.TheVariants as stop
 use Rattle.rumble_run.specs.declared.status.Status.TheVariants.{Done, Raised, Refused, Usage, ReadFault, WriteFault, NoMemory}
 use Rattle.rumble_run.specs.declared.command.Command.{Command}
 use Rattle.rumble_run.specs.declared.ending.Ending.{Ending}
@@ -18,6 +21,20 @@ use Rattle.rumble_run.specs.declared.ending.Ending.{Ending}
 -- the ending as an answer
 abbrev pub answer_of : Ending → Answer
 answer_of e = record { status = e.status; out = e.out.items; err = string_bytes e.err }
+
+-- this is the answer over each world over which the call is answered
+abbrev pub IsToldAnswer : Option World → List (List ℕ) → Answer → Type 0
+IsToldAnswer told words answer =
+    (world : World) → AnswersOver told (command_of words) world → IsAnswer words world answer
+
+abbrev pub status_of_stop : Stop → Status
+status_of_stop stop.ReadFault = ReadFault
+status_of_stop stop.NoMemory = NoMemory
+
+-- the status that was decided, or that of the stop
+abbrev pub decided_status : Result Ending Stop → Status
+decided_status (Ok e) = e.status
+decided_status (Err stop) = status_of_stop stop
 
 -- only Done has output, and an ending that was decided is no fault of reading, writing or memory
 abbrev pub IsSilent : List ℕ → Status → Type 0

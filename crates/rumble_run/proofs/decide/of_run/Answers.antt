@@ -6,7 +6,7 @@ use Rattle.query_meaning.specs.inside.Computed.{inputs_of}
 use Rattle.query_meaning.specs.inside.Views.{library_of}
 use Rattle.rumble_run.specs.inside.Seen.{executable_of}
 use Rattle.rumble_run.proofs.Endings.{of_outcome_is, run_ended}
-use Rattle.rumble_run.proofs.LoneInputs.{lone_ended, lone_opened}
+use Rattle.rumble_run.proofs.LoneInputs.{lone_ended, lone_searched}
 use Rattle.rumble_run.proofs.decide.of_run.Goals as goal
 
 pub returns-clause-shape : goal.returns-clause-shape
@@ -24,7 +24,7 @@ returns-in-Some-clause-value g c =
     let lone = rw c.module-2.ensures.tree at c.in-Some.ensures in
     lone_ended c.args.stats _ c.args.text.now (executable_of c.args.query.now) _ _ _ (g.I.Inputs.world c.args.inputs.now) names lone.0 lone.1 c.in_ok-ending.ensures.value
 
-pub returns-in-Some-clause-opened : goal.returns-in-Some-clause-opened
-returns-in-Some-clause-opened g c =
+pub returns-in-Some-clause-searched : goal.returns-in-Some-clause-searched
+returns-in-Some-clause-searched g c =
     let names = c.deref.ensures.value ∙ c.in_ok-names.ensures ∙ ap (λ t. input_names (bound_trees t)) c.module.ensures.tree in
-    lone_opened (Ok c.in_ok-ending.ending) _ _ _ (g.I.Inputs.world c.args.inputs.now) (g.I.Inputs.counts c.args.inputs.now) (g.I.Inputs.counts c.of_lone_input.new.inputs) names (c.in-Some.ensures).0 c.in_ok-ending.ensures.opened
+    lone_searched (Ok c.in_ok-ending.ending) _ _ _ (g.I.Inputs.world c.args.inputs.now) (g.I.Inputs.counts c.args.inputs.now) (g.I.Inputs.counts c.of_lone_input.new.inputs) names (c.in-Some.ensures).0 c.in_ok-ending.ensures.searched

@@ -24,7 +24,7 @@ loop-name-preserved g c =
     let taken = next_taken names i c.name-item.result c.loop-name-test.true c.name-item.is in
     let dropped = next_dropped names i c.name-item.result c.loop-name-test.true c.name-item.is in
     let read = rw before.world at c.in_ok-one.ensures.held in
-    let counted = rw before.world at c.in_ok-one.ensures.opened in
+    let counted = rw before.world at c.in_ok-one.ensures.searched in
     record {
       world = c.in_ok-one.ensures.world ∙ before.world;
       held = rw c.in_ok-push.ensures.items (told_from_two world (λ w m one. pushed_read w c.loop-name.held.items c.in_ok-one.one (take i names) (take (i + 1) names) c.name-item.result taken m one) before.held read);
