@@ -13,6 +13,8 @@ mod parts;
 #[cfg(test)]
 mod plans;
 #[cfg(test)]
+mod prepare;
+#[cfg(test)]
 mod queries;
 #[cfg(test)]
 mod refusals;
