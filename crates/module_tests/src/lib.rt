@@ -4,4 +4,10 @@
 #[cfg(test)]
 mod heads;
 #[cfg(test)]
+mod loads;
+#[cfg(test)]
 mod places;
+#[cfg(test)]
+mod reading;
+#[cfg(test)]
+mod steps;
