@@ -76,7 +76,8 @@ module _ {T : Type 0} where
   -- a library has the body `()`
   abbrev pub library_of : Onward T → Name → List Name → Source T → Option ℕ → Files T
       → Result (Files T) Refusal
-  library_of onward name path source (Some place) done = refused name PJST0009 place (so_far path done + 1)
+  library_of onward name path source (Some place) done =
+      refused name PJST0009 place (so_far path done + 1)
   library_of onward name path source None done = onward name path source done
 
   -- a file that an import of another file names, where it is to be loaded
