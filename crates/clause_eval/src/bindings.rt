@@ -178,9 +178,9 @@ pub(crate) fn bound_tuples<'a>(
     }
 }
 
-/// The tuples that a `for` makes of items, of which the first has this position. The items are moved
-/// into their tuples, and the other slots are lent from the leading tuple. Where a position does not
-/// fit, memory would not do either.
+/// The tuples that a `for` makes of items, the first of which has this position. The items are
+/// moved into their tuples, and the other slots are lent from the leading tuple. Where a position
+/// does not fit, memory would not do either.
 pub fn bind_items<'a>(
     alloc: Global,
     by: &Binding<'_>,

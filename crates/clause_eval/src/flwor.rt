@@ -48,7 +48,7 @@ impl<F: for<'s, 'a> Fn(Global, &BoundExpr, &Env<'s, 'a>) -> Result<Value<'a>, Ev
         }
     }
 
-    /// The clauses after the first ones, which these tuples have passed, and `return`: narrow clauses
+    /// The clauses after the first ones, which these tuples have passed, and `return`: narrow ones
     /// tuple by tuple, and each other one on the whole list.
     pub fn flwor_rest<'a>(
         &self,

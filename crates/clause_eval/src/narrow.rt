@@ -70,7 +70,7 @@ fn past(number: u32, clauses: &[BoundClause], body: Option<&BoundExpr>) -> u32
 impl<F: for<'s, 'a> Fn(Global, &BoundExpr, &Env<'s, 'a>) -> Result<Value<'a>, EvalFault>> Evaluator<
     F,
 > {
-    /// Runs narrow clauses on tuples, and after them `return`, if it is there, as steps with numbers
+    /// Runs narrow clauses on tuples, and after them `return`, if it is there, as steps numbered
     /// from this one on. Only steps below the limit are run, and all where it is one past the last
     /// step. After a fault only the steps before it go on, since their faults go first. It answers
     /// only want of memory as an error.

@@ -31,7 +31,7 @@ pub fn frame_again<'a>(alloc: Global, frame: &[Value<'a>]) -> Result<Frame<'a>, 
     Ok(Frame { slots })
 }
 
-/// The same tuple, whose values are lent. Nothing is copied, and no count of what is shared changes.
+/// The same tuple, whose values are lent: nothing is copied, and no count of what is shared grows.
 pub fn frame_lent<'a>(alloc: Global, frame: &'a [Value<'a>]) -> Result<Frame<'a>, EvalFault>
     ensures { Gives frame_tuple result (Ok (tuple_of frame.now)) }
 {
