@@ -1,0 +1,3 @@
+mod Bound
+mod Noted
+mod Declared
