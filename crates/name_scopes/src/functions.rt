@@ -77,6 +77,14 @@ impl<'q> Functions<'q> {
         Ok(())
     }
 
+    /// No functions from here on.
+    pub fn clear(&mut self)
+        ensures { self.new ≡ [] }
+    {
+        self.all.clear();
+        self.firsts.clear();
+    }
+
     /// The position, from 0, of the first function of this name that takes so many arguments.
     pub fn position(&self, name: &Str, arity: usize) -> Option<usize>
         ensures { result ≡ function_position self.now name.now arity }

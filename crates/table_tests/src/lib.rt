@@ -1,10 +1,12 @@
-//! Tests of the tables of tuples, of groups, of orders and of keys. There is nothing else in this crate.
+//! Tests of the tables of tuples, of groups, of orders, of keys and of names. There is nothing else in this crate.
 #![tactic(auto)]
 
 #[cfg(test)]
 mod group_lists;
 #[cfg(test)]
 mod join_lists;
+#[cfg(test)]
+mod name_lists;
 #[cfg(test)]
 mod order_lists;
 #[cfg(test)]
