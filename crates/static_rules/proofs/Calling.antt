@@ -14,7 +14,6 @@ use Rattle.query_tree.specs.declared.names.TypeName.{TypeName}
 use Rattle.query_tree.specs.Plain as p
 use Rattle.query_tree.proofs.Layers.{tree_of-out}
 use Rattle.static_rules.specs.declared.rules.Rule.TheVariants.{UnknownFunction, UnnamedInput}
-use Rattle.static_rules.specs.declared.walk.Known.{Known}
 use Rattle.static_rules.specs.Views.{NamedTrees, Callee, has_callee, argument_count}
 use Rattle.static_rules.specs.Mentions.{mention_at, calls}
 use Rattle.static_rules.specs.Rules.{is_lines, is_built_in, are_texts, name_inputs}
@@ -48,11 +47,11 @@ argument_length [] = refl
 argument_length (e ∷ es) = let h = argument_length es in omega arith
 
 -- the declared function that is called
-same-position : (name : List ℕ) (arity : ℕ) (ks : List Known) → position_or_len (λ c. bytes_eq c.name name && c.arity == arity) (map callee_of ks) ≡ position_or_len (λ k. bytes_eq (callee_of k).name name && (callee_of k).arity == arity) ks
+same-position : (name : List ℕ) (arity : ℕ) (ks : List (List ℕ × ℕ)) → position_or_len (λ c. bytes_eq c.name name && c.arity == arity) (map callee_of ks) ≡ position_or_len (λ k. bytes_eq (callee_of k).name name && (callee_of k).arity == arity) ks
 same-position name arity [] = refl
 same-position name arity (k ∷ ks) = let h = same-position name arity ks in grind (arith, common_steps)
 
-pub known-number : (ks : List Known) (name : List ℕ) (arity : ℕ) → position (λ c. bytes_eq c.name name && c.arity == arity) (map callee_of ks) ≡ position (λ k. bytes_eq (callee_of k).name name && (callee_of k).arity == arity) ks
+pub known-number : (ks : List (List ℕ × ℕ)) (name : List ℕ) (arity : ℕ) → position (λ c. bytes_eq c.name name && c.arity == arity) (map callee_of ks) ≡ position (λ k. bytes_eq (callee_of k).name name && (callee_of k).arity == arity) ks
 known-number ks name arity =
     ap (λ n. cond (nat_lt n (length (map callee_of ks))) (Some n) None) (same-position name arity ks)
     ∙ ap (λ m. let n = position_or_len (λ k. bytes_eq (callee_of k).name name && (callee_of k).arity == arity) ks in cond (nat_lt n m) (Some n) None) (length-map ks callee_of)
@@ -111,7 +110,7 @@ other-known s name es place e =
     ap (λ n. tested s (not (is_built_in name n || has_callee s.names.functions name n)) UnknownFunction place) (sym (argument_length es))
     ∙ other-tested s name (named_tree_list es) place e
 
-pub own-found : (ks : List Known) (cs : List Callee) (name : List ℕ) (arity : ℕ) (own : Option ℕ) → cs ≡ map callee_of ks → own ≡ position (λ k. bytes_eq (callee_of k).name name && (callee_of k).arity == arity) ks → own ≡ position (λ c. bytes_eq c.name name && c.arity == arity) cs
+pub own-found : (ks : List (List ℕ × ℕ)) (cs : List Callee) (name : List ℕ) (arity : ℕ) (own : Option ℕ) → cs ≡ map callee_of ks → own ≡ position (λ k. bytes_eq (callee_of k).name name && (callee_of k).arity == arity) ks → own ≡ position (λ c. bytes_eq c.name name && c.arity == arity) cs
 own-found ks cs name arity own h e = e ∙ sym (known-number ks name arity) ∙ ap (position (λ c. bytes_eq c.name name && c.arity == arity)) (sym h)
 
 pub own-target : (cs : List Callee) (name : List ℕ) (arity : ℕ) (own : Option ℕ) → own ≡ position (λ c. bytes_eq c.name name && c.arity == arity) cs → function_named name arity ≡ None → Own (unwrap_or own 0) ≡ function_or_own (function_named name arity) (own_number cs name arity)

@@ -1,5 +1,8 @@
 -- How the states behind declarations join.
-use Rattle.std.proofs.Common.{◌≡◌, ℕ, List, [], ◌++◌, length, refl, ap, arith, zero-add}
+use Rattle.std.proofs.Common.{◌≡◌, ℕ, suc, ◌+◌, ◌<◌, ◌≤◌, List, [], ◌∷◌, ◌++◌, length, map, take, take_all, get_or, refl, sym, ap, ◌∙◌, arith, zero-add}
+use Rattle.std.proofs.lemmas.List.{map-append}
+use Rattle.std.proofs.Math.Seq.{take-suc}
+use Rattle.static_rules.specs.Stacks.{callee_of as named_callee}
 use Rattle.std.specs.Prelude.{max}
 use Rattle.query_tree.specs.declared.bound.Slot.TheVariants.{Global}
 use Rattle.static_rules.specs.Views.{Callee}
@@ -48,6 +51,26 @@ bound-declared s ms n names name number = refl
 pub seeing-names : (s : State) (functions : List Callee) → (seeing_functions s functions).names ≡ with_functions s.names functions
 unfolding seeing_functions
 seeing-names s functions = refl
+
+pub more_functions : (fs : List (List ℕ × ℕ)) (f : List ℕ × ℕ) → map named_callee (fs ++ f ∷ []) ≡ map named_callee fs ++ named_callee f ∷ []
+more_functions fs f = map-append named_callee fs (f ∷ [])
+
+-- one more of the functions that are seen, of which so many were
+pub seen-more : {X Y : Type 0} (s now next : State) (f : X → Y) (g : Y → Callee) (xs : List X) (i : ℕ) (x : X) (c : Callee)
+    → now ≡ seeing_functions s (map g (map f (take i xs))) → i < length xs → x ≡ get_or xs i x → g (f x) ≡ c
+    → next ≡ seeing_functions now (now.names.functions ++ c ∷ []) → next ≡ seeing_functions s (map g (map f (take (i + 1) xs)))
+unfolding seeing_functions
+seen-more s now next f g xs i x c h l at called n =
+    let front : map g (map f (take i xs)) ++ c ∷ [] ≡ map g (map f (take (i + 1) xs)) =
+    ap (λ k. map g (map f (take i xs)) ++ k ∷ []) (sym called ∙ ap (λ y. g (f y)) at)
+    ∙ sym (map-append g (map f (take i xs)) (f (get_or xs i x) ∷ []))
+    ∙ ap (map g) (sym (map-append f (take i xs) (get_or xs i x ∷ [])))
+    ∙ ap (λ k. map g (map f k)) (sym (take-suc xs i x l) ∙ ap (λ k. take k xs) (let e : suc i ≡ i + 1 = omega arith in e)) in
+    n ∙ ap (λ t. seeing_functions t (t.names.functions ++ c ∷ [])) h ∙ ap (seeing_functions s) front
+
+pub seen-all : {X Y : Type 0} (s now : State) (f : X → Y) (g : Y → Callee) (xs : List X) (i : ℕ)
+    → now ≡ seeing_functions s (map g (map f (take i xs))) → length xs ≤ i → now ≡ seeing_functions s (map g (map f xs))
+seen-all s now f g xs i h l = h ∙ ap (λ k. seeing_functions s (map g (map f k))) (take_all i xs l)
 
 pub declared-seeing : (s : State) (functions : List Callee) (ms : List MentionAt) (n : ℕ) (names : Names) → declared (seeing_functions s functions) ms n names ≡ declared s ms n names
 unfolding declared seeing_functions

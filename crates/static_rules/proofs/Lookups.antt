@@ -5,21 +5,11 @@ use Rattle.std.specs.List.{list_any}
 use Rattle.std.specs.Str.{bytes_eq}
 use Rattle.std.proofs.lemmas.List.{reverse-append, take-map}
 use Rattle.std.proofs.lemmas.List.Folds.{list_any-append}
-use Rattle.static_rules.specs.declared.walk.Binding.{Binding}
-use Rattle.static_rules.specs.declared.walk.Known.{Known}
-use Rattle.static_rules.specs.Views.{has_name, has_callee}
+use Rattle.static_rules.specs.Views.{has_callee}
 use Rattle.static_rules.specs.Compiling.{Names}
-use Rattle.static_rules.specs.Walks.{slot_found}
-use Rattle.static_rules.specs.Stacks.{bindings_of, callee_of}
-use Rattle.static_rules.specs.Behind.{stream_of}
+use Rattle.static_rules.specs.Stacks.{callee_of}
 use Rattle.static_rules.specs.Declarations.{earlier_functions}
-use Rattle.static_rules.proofs.Stacking.{has-found, cut-front}
 use Rattle.static_rules.proofs.Calling.{known-number, has-position}
-
-pub bound-since : (bs : List Binding) (names : Names) (base : ℕ) (name : List ℕ) → bindings_of bs ≡ names.variables → is_some (slot_found (bindings_of (drop base bs)) name) ≡ has_name (stream_of base names) name
-bound-since bs names base name h =
-    ap (λ xs. is_some (slot_found xs name)) (cut-front base bs ∙ ap (λ ys. take (length ys - base) ys) h)
-    ∙ sym (has-found (take (length names.variables - base) names.variables) name)
 
 or-swapped : (a b : Bool) → (a || (b || false)) ≡ (b || a)
 or-swapped true true = refl
@@ -35,7 +25,7 @@ any-reversed p (x ∷ xs) =
     ∙ or-swapped (list_any p (reverse xs)) (p x)
     ∙ ap (λ b. p x || b) (any-reversed p xs)
 
-pub declared-before : (ks : List Known) (names : Names) (number : ℕ) (name : List ℕ) (arity : ℕ) → map callee_of ks ≡ names.functions
+pub declared-before : (ks : List (List ℕ × ℕ)) (names : Names) (number : ℕ) (name : List ℕ) (arity : ℕ) → map callee_of ks ≡ names.functions
     → is_some (position (λ k. bytes_eq (callee_of k).name name && (callee_of k).arity == arity) (take number ks)) ≡ has_callee (earlier_functions names number) name arity
 declared-before ks names number name arity h =
     ap is_some (sym (known-number (take number ks) name arity))

@@ -1,44 +1,17 @@
 -- Lookups in the stack of the walk.
-use Rattle.std.proofs.Common.{◌≡◌, ℕ, ◌-◌, Bool, true, false, cond, not, ◌||◌, Some, is_some, List, [], ◌∷◌, ◌++◌, length, map, take, drop, refl, sym, ap, ◌∙◌}
-use Rattle.std.specs.Prelude.{reverse, unwrap_or}
+use Rattle.std.proofs.Common.{◌≡◌, ℕ, ◌-◌, Bool, true, false, cond, not, ◌||◌, Some, is_some, List, [], ◌∷◌, length, drop, refl, sym, ap, ◌∙◌, arith}
+use Rattle.std.specs.Prelude.{unwrap_or}
 use Rattle.std.specs.Str.{bytes_eq}
-use Rattle.std.proofs.lemmas.List.{reverse-append, take-append-drop, map-append, length-map, length-reverse, length-drop, drop_at, take_at, take_rest}
 use Rattle.query_tree.specs.declared.bound.Slot.{Slot}
 use Rattle.query_tree.specs.declared.bound.Slot.TheVariants.{Local}
 use Rattle.static_rules.specs.declared.rules.Rule.TheVariants.{UnboundVariable, NoStreamVariable}
-use Rattle.static_rules.specs.declared.walk.Binding.{Binding}
 use Rattle.static_rules.specs.Views.{has_name}
 use Rattle.static_rules.specs.Mentions.{mention_at, reads, groups_by}
-use Rattle.static_rules.specs.Compiling.{slot_in}
+use Rattle.static_rules.specs.Compiling.{Names, slot_in}
 use Rattle.static_rules.proofs.Passing.{passed-test}
 use Rattle.static_rules.specs.Walks.{State, passed, bound_names, slot_found, tested}
-use Rattle.static_rules.specs.Stacks.{binding_of, bindings_of}
-
--- what is cut off the end of a stack is what stands at the front of its bindings
-pub cut : (n : ℕ) (bs : List Binding) → bindings_of (take n bs) ≡ drop (length (bindings_of bs) - n) (bindings_of bs)
-cut n bs = sym (ap (λ x. drop (length (bindings_of bs) - n) (map binding_of (reverse x))) (sym (take-append-drop n bs)) ∙ ap (λ x. drop (length (bindings_of bs) - n) x) parts ∙ drop_at (bindings_of (drop n bs)) (bindings_of (take n bs)) (length (bindings_of bs) - n) long)
-  where
-    parts : map binding_of (reverse (take n bs ++ drop n bs)) ≡ bindings_of (drop n bs) ++ bindings_of (take n bs)
-    parts = ap (map binding_of) (reverse-append (take n bs) (drop n bs)) ∙ map-append binding_of (reverse (drop n bs)) (reverse (take n bs))
-
-    size : (xs : List Binding) → length (bindings_of xs) ≡ length xs
-    size xs = length-map (reverse xs) binding_of ∙ length-reverse xs
-
-    long : length (bindings_of (drop n bs)) ≡ length (bindings_of bs) - n
-    long = size (drop n bs) ∙ length-drop n bs ∙ ap (λ k. k - n) (sym (size bs))
-
--- what is cut off the front of a stack is what stands at the end of its bindings
-pub cut-front : (n : ℕ) (bs : List Binding) → bindings_of (drop n bs) ≡ take (length (bindings_of bs) - n) (bindings_of bs)
-cut-front n bs = sym (ap (λ x. take (length (bindings_of bs) - n) (map binding_of (reverse x))) (sym (take-append-drop n bs)) ∙ ap (λ x. take (length (bindings_of bs) - n) x) parts ∙ take_at (bindings_of (drop n bs)) (bindings_of (take n bs)) (length (bindings_of bs) - n) long)
-  where
-    parts : map binding_of (reverse (take n bs ++ drop n bs)) ≡ bindings_of (drop n bs) ++ bindings_of (take n bs)
-    parts = ap (map binding_of) (reverse-append (take n bs) (drop n bs)) ∙ map-append binding_of (reverse (drop n bs)) (reverse (take n bs))
-
-    size : (xs : List Binding) → length (bindings_of xs) ≡ length xs
-    size xs = length-map (reverse xs) binding_of ∙ length-reverse xs
-
-    long : length (bindings_of (drop n bs)) ≡ length (bindings_of bs) - n
-    long = size (drop n bs) ∙ length-drop n bs ∙ ap (λ k. k - n) (sym (size bs))
+use Rattle.name_scopes.specs.Scopes.{is_bound}
+use Rattle.static_rules.specs.Behind.{below}
 
 pub has-found : (bs : List (List ℕ × Slot)) (name : List ℕ) → has_name (bound_names bs) name ≡ is_some (slot_found bs name)
 has-found [] name = refl
@@ -70,5 +43,13 @@ un-not false b h = ap not h
 pub group-tested : (s : State) (name : List ℕ) (stream : List (List ℕ)) (place : ℕ) → tested s (not (has_name stream name)) NoStreamVariable place ≡ passed s (mention_at place (groups_by name stream) ∷ []) []
 group-tested s name stream place = sym (passed-test s (mention_at place (groups_by name stream)) (not (has_name stream name)) NoStreamVariable refl)
 
-pub rest-taken : {X : Type 0} (n : ℕ) (xs : List X) → take (length xs - n) (drop n xs) ≡ drop n xs
-rest-taken n xs = take_rest xs n
+-- whether a name is among bindings
+pub bound-named : (bs : List (List ℕ × Slot)) (name : List ℕ) → is_bound bs name ≡ has_name (bound_names bs) name
+bound-named [] name = refl
+bound-named (b ∷ bs) name = ap (λ t. bytes_eq b.0 name || t) (bound-named bs name)
+
+-- all that is bound is among so many
+pub all-below : (s : Names) (mark : ℕ) → mark ≡ length s.variables → below mark s ≡ s
+all-below s mark h =
+    let e : length s.variables - mark ≡ 0 = omega arith in
+    ap (λ n. let t : Names = record s { variables = drop n s.variables } in t) e

@@ -1,16 +1,6 @@
--- The stack of the walk as plain values.
-use Rattle.std.specs.Prelude.{ℕ, List, map, reverse}
-use Rattle.query_tree.specs.declared.bound.Slot.{Slot}
+-- The declared functions that the walk sees, as plain values.
+use Rattle.std.specs.Prelude.{ℕ, List}
 use Rattle.static_rules.specs.Views.{Callee}
-use Rattle.static_rules.specs.declared.walk.Binding.{Binding}
-use Rattle.static_rules.specs.declared.walk.Known.{Known}
 
-abbrev pub binding_of : Binding → List ℕ × Slot
-binding_of b = (b.name.now, b.slot)
-
--- the latest first
-abbrev pub bindings_of : List Binding → List (List ℕ × Slot)
-bindings_of bs = map binding_of (reverse bs)
-
-abbrev pub callee_of : Known → Callee
-callee_of k = record { name = k.name.now; arity = k.arity }
+abbrev pub callee_of : List ℕ × ℕ → Callee
+callee_of f = record { name = f.0; arity = f.1 }

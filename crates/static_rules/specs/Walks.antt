@@ -1,7 +1,7 @@
 -- What the walk over a query has found where it stands.
-use Rattle.std.specs.Prelude.{ℕ, Bool, Option, Some, None, List, [], ◌∷◌, map, if◌then◌else◌}
-use Rattle.std.specs.Str.{bytes_eq}
+use Rattle.std.specs.Prelude.{ℕ, Bool, Option, Some, None, List, map, if◌then◌else◌}
 use Rattle.std.specs.List.{flat_map}
+use Rattle.name_scopes.specs.Scopes.{value_found}
 use Rattle.query_tree.specs.declared.bound.Slot.{Slot}
 use Rattle.static_rules.specs.declared.rules.Refusal.{Refusal}
 use Rattle.static_rules.specs.declared.rules.Rule.{Rule}
@@ -46,5 +46,4 @@ tested s broken rule place =
     }
 
 abbrev pub slot_found : List (List ℕ × Slot) → List ℕ → Option Slot
-slot_found [] name = None
-slot_found (b ∷ bs) name = if bytes_eq b.0 name then Some b.1 else slot_found bs name
+slot_found bs name = value_found bs name

@@ -1,14 +1,11 @@
 //! The names of inputs and of functions in calls.
 
-ghost use Rattle.std.specs.Prelude.{◌≡◌, ◌==◌, ◌&&◌, option_map, map, position, IfOk};
-ghost use Rattle.std.specs.Str.{bytes_eq};
+ghost use Rattle.std.specs.Prelude.{◌≡◌, option_map, IfOk};
 ghost use Rattle.static_rules.specs.Rules.{is_lines, are_texts, is_name_count, name_inputs};
 ghost use Rattle.static_rules.specs.Calls.{text_in, texts_of};
-ghost use Rattle.static_rules.specs.Stacks.{callee_of};
 ghost use Rattle.query_tree.specs.NamedViews.{named_form, named_tree_list};
 
 use crate::leaves::NamedKind;
-use crate::walk::Known;
 use item_tree::{NoMemory, Str};
 use query_tree::{Kind, NamedExpr};
 use std::alloc::Global;
@@ -18,18 +15,6 @@ pub fn is_lines(name: &Str) -> bool
     ensures { result ≡ is_lines name.now }
 {
     name.as_str() == "json-lines"
-}
-
-/// The declared function of this name that takes so many arguments.
-#[tactic(auto, using(std::proofs::lemmas::Grind::common_steps))]
-pub fn own_position(functions: &[Known], name: &Str, arity: usize) -> Option<usize>
-    ensures { result
-        ≡ position (λ f. bytes_eq (callee_of f).name name.now && (callee_of f).arity == arity)
-        functions.now }
-{
-    functions
-        .iter()
-        .position(|f| f.name == name && f.arity == arity)
 }
 
 /// The string that an expression is, where it is spelled out.

@@ -5,17 +5,16 @@ ghost use Rattle.static_rules.specs.Views.{has_callee};
 ghost use Rattle.static_rules.specs.Mentions as m;
 ghost use Rattle.static_rules.specs.Rules.{is_lines, is_built_in};
 ghost use Rattle.static_rules.specs.Compiling.{compiled_variables, compiled_functions, compiled_params, variable_width, function_width, greatest};
-ghost use Rattle.static_rules.specs.Stacks.{callee_of};
 ghost use Rattle.query_tree.specs.NamedViews.{named_variable, named_function};
 ghost use Rattle.query_tree.specs.BoundViews.{bound_variable, bound_function};
-ghost use Rattle.static_rules.specs.Declarations.{compiled_variable, compiled_function, compiled_param, with_functions, earlier_functions, behind_variable, behind_variables, behind_function, behind_functions, behind_param, behind_params};
+ghost use Rattle.static_rules.specs.Declarations.{compiled_variable, compiled_function, compiled_param, with_functions, seeing_functions, earlier_functions, behind_variable, behind_variables, behind_function, behind_functions, behind_param, behind_params};
 
 use crate::Rule;
 use crate::calls::is_lines;
 use crate::exprs::expr;
 use crate::gather::{both, pushed};
 use crate::leaves::{any_type, local};
-use crate::walk::{Known, Walk};
+use crate::walk::Walk;
 use item_tree::{FnId, NoMemory, Str};
 use query_tree::{Function, Param, Placed, Slot, Target, TypeName, Variable};
 use seq_types::SeqType;
@@ -101,7 +100,7 @@ pub fn functions<'q>(
     ensures walk { OnOk result
         (walk.new ≡ behind_functions walk.old (map named_function parts.now)) }
 {
-    walk.see(known(alloc, parts)?);
+    see_all(walk, parts)?;
     let mut width = 0usize;
     let mut out = Vec::new(alloc);
     for (number, part) in parts.iter().enumerate() {
@@ -112,19 +111,16 @@ pub fn functions<'q>(
     Ok((out, width))
 }
 
-// The declared functions, as they are called.
-fn known<'q>(alloc: Global, parts: &'q [NamedFunction]) -> Result<Vec<Known<'q>>, NoMemory>
-    ensures { IfOk result
-        (λ ks. map callee_of ks.items ≡ map m.callee_of (map named_function parts.now)) }
+// From here on these functions are seen, and no others.
+fn see_all<'q>(walk: &mut Walk<'q>, parts: &'q [NamedFunction]) -> Result<(), NoMemory>
+    ensures { OnOk result
+        (walk.new ≡ seeing_functions walk.old (map m.callee_of (map named_function parts.now))) }
 {
-    let mut out = Vec::new(alloc);
+    walk.see_none();
     for part in parts {
-        out.push(Known {
-            name: &part.function.name,
-            arity: part.params.len(),
-        })?;
+        walk.see(&part.function.name, part.params.len())?;
     }
-    Ok(out)
+    Ok(())
 }
 
 // A declared function with this number.

@@ -1,6 +1,6 @@
 //! What a walk over a query sees, and what it has found.
 
-ghost use Rattle.std.specs.Prelude.{◌≡◌, ℕ, ◌+◌, ◌-◌, ◌≤◌, not, ◌||◌, Some, None, List, [], ◌∷◌, unwrap_or, is_some, length, take, drop, IfOk, OnOk};
+ghost use Rattle.std.specs.Prelude.{◌≡◌, ℕ, ◌+◌, ◌-◌, ◌≤◌, not, ◌||◌, Some, None, List, [], ◌∷◌, ◌++◌, unwrap_or, is_some, length, take, drop, IfOk, OnOk};
 ghost use Rattle.query_tree.specs.declared.bound.Slot.TheVariants.{Local};
 ghost use Rattle.query_tree.specs.declared.bound.Target.TheVariants.{Own};
 ghost use Rattle.static_rules.specs.Mentions.{mention_at, reads, reads_item, has_type, casts_to, calls, groups_by, position_mentions};
@@ -14,40 +14,24 @@ ghost use Rattle.static_rules.specs.declared.rules.Rule.TheVariants.{UnknownFunc
 ghost use Rattle.query_tree.specs.NamedViews.{named_tree_list};
 ghost use Rattle.static_rules.specs.Behind.{below, stream_of};
 ghost use Rattle.static_rules.specs.Openings.{opened, opened_any, numbered, bound_to, bound_for, closed};
-ghost use Rattle.static_rules.specs.Stacks.{bindings_of};
-ghost use Rattle.std.specs.Prelude.{map};
 ghost use Rattle.static_rules.specs.Stacks.{callee_of};
 ghost use Rattle.static_rules.specs.Declarations.{started, begun, bound_global, seeing_functions, earlier_functions};
 
-use crate::calls::{is_lines, name_inputs, own_position, texts};
+use crate::calls::{is_lines, name_inputs, texts};
 use crate::types::{is_unknown_cast_type, is_unknown_type, placed_type};
 use crate::{Refusal, Rule};
 use item_tree::{FnId, NoMemory, Str};
+use name_scopes::{Functions, Scope};
 use query_tree::{InputNames, NamedExpr, Placed, Slot, Target, TypeName};
 use seq_types::SeqType;
 use std::alloc::Global;
 use std::marker::Model;
 
-/// A variable that is bound where the walk stands.
-#[derive(Clone, Copy)]
-pub struct Binding<'q> {
-    pub name: &'q Str,
-    pub slot: Slot,
-}
-
-/// A declared function that is seen where the walk stands.
-#[derive(Clone, Copy)]
-pub struct Known<'q> {
-    pub name: &'q Str,
-    pub arity: usize,
-}
-
 /// A walk over a query: what it sees where it stands, and what it has found so far.
 #[derive(Drop)]
 pub struct Walk<'q> {
-    // the latest last
-    names: Vec<Binding<'q>>,
-    functions: Vec<Known<'q>>,
+    names: Scope<'q, Slot>,
+    functions: Functions<'q>,
     number: u32,
     first: Option<Refusal>,
 }
@@ -55,15 +39,15 @@ pub struct Walk<'q> {
 impl<'q> Model for Walk<'q> {
     ghost use Rattle.std.specs.Prelude.{map};
     ghost use Rattle.static_rules.specs.Walks.{State};
-    ghost use Rattle.static_rules.specs.Stacks.{bindings_of, callee_of};
+    ghost use Rattle.static_rules.specs.Stacks.{callee_of};
 
     ghost Value = { State };
 
     ghost view = { λ w.
         record {
           names = record {
-            variables = bindings_of w.names.items;
-            functions = map callee_of w.functions.items;
+            variables = w.names;
+            functions = map callee_of w.functions;
           };
           number = w.number;
           first = w.first;
@@ -126,11 +110,7 @@ impl<'q> Walk<'q> {
     pub fn bind(&mut self, name: &'q Str, number: u32) -> Result<(), NoMemory>
         ensures { OnOk result (self.new ≡ bound_to self.old name.now number) }
     {
-        self.names.push(Binding {
-            name,
-            slot: Slot::Local(number),
-        })?;
-        Ok(())
+        self.names.push(name, Slot::Local(number))
     }
 
     /// Binds the variable of a `for` and its position variable, if there is one.
@@ -185,7 +165,7 @@ impl<'q> Walk<'q> {
     }
 
     /// Unbinds what was bound since so many variables were.
-    #[tactic(auto, using(crate::proofs::Stacking::cut), unfolding(crate::specs::Openings::closed))]
+    #[tactic(auto, unfolding(crate::specs::Openings::closed))]
     pub fn close(&mut self, depth: usize)
         ensures { self.new ≡ closed self.old depth }
     {
@@ -283,7 +263,7 @@ impl<'q> Walk<'q> {
             UnknownFunction place) }
     {
         let built = FnId::find(name.as_str(), arity);
-        let own = own_position(&self.functions, name, arity);
+        let own = self.functions.position(name, arity);
         self.test(!is_known(built, own), Rule::UnknownFunction, place);
         match built {
             Some(id) => Ok(Target::Built(id)),
@@ -300,31 +280,22 @@ impl<'q> Walk<'q> {
             (mention_at place (groups_by name.now (stream_of base (below mark self.old.names)))
             ∷ []) [] }
     {
-        let found = latest(self.first_names(mark), name);
+        let found = self.names.latest_below(name, mark);
         let known = self.is_between(name, base, mark);
         self.test(!known, Rule::NoStreamVariable, place);
         found.unwrap_or(Slot::Local(0))
     }
 
-    // The variables that were bound first, at most so many.
-    #[tactic(auto, using(crate::proofs::Stacking::cut))]
-    fn first_names(&self, mark: usize) -> &[Binding<'q>]
-        ensures { bindings_of result.now ≡ (below mark self.now.names).variables }
-    {
-        front(&self.names, mark)
-    }
-
     fn is_between(&self, name: &Str, base: usize, mark: usize) -> bool
         ensures { result ≡ has_name (stream_of base (below mark self.now.names)) name.now }
     {
-        let outer = self.first_names(mark);
-        latest(behind(outer, base), name).is_some()
+        self.names.is_between(name, base, mark)
     }
 
     fn find(&self, name: &Str) -> Option<Slot>
         ensures { result ≡ slot_found self.now.names.variables name.now }
     {
-        latest(&self.names, name)
+        self.names.latest(name)
     }
 
     /// The variable of this name, which is read here.
@@ -346,8 +317,8 @@ impl<'q> Walk<'q> {
         ensures { result ≡ started }
     {
         Walk {
-            names: Vec::new(alloc),
-            functions: Vec::new(alloc),
+            names: Scope::new(alloc),
+            functions: Functions::new(alloc),
             number: 0,
             first: None,
         }
@@ -387,7 +358,7 @@ impl<'q> Walk<'q> {
         requires { base ≤ length self.now.names.variables }
         ensures { result ≡ has_name (stream_of base self.now.names) name.now }
     {
-        latest(&self.names[base..], name).is_some()
+        self.is_between(name, base, self.names.len())
     }
 
     /// Binds the declared variable with this number.
@@ -400,16 +371,27 @@ impl<'q> Walk<'q> {
             return Err(NoMemory);
         };
         let slot = Slot::Global(number);
-        self.names.push(Binding { name, slot })?;
+        self.names.push(name, slot)?;
         Ok(slot)
     }
 
-    /// Sees these declared functions, and no others.
+    /// Sees no declared functions.
     #[tactic(auto, unfolding(crate::specs::Declarations::seeing_functions))]
-    pub fn see(&mut self, functions: Vec<Known<'q>>)
-        ensures { self.new ≡ seeing_functions self.old (map callee_of functions.entry.items) }
+    pub fn see_none(&mut self)
+        ensures { self.new ≡ seeing_functions self.old [] }
     {
-        self.functions = functions;
+        self.functions.clear();
+    }
+
+    /// Sees one more declared function, behind the others.
+    #[tactic(auto, using(crate::proofs::Declaring::more_functions), unfolding(crate::specs::Declarations::seeing_functions))]
+    pub fn see(&mut self, name: &'q Str, arity: usize) -> Result<(), NoMemory>
+        ensures { OnOk result
+            (self.new
+            ≡ seeing_functions self.old
+            (self.old.names.functions ++ callee_of (name.now, arity) ∷ [])) }
+    {
+        self.functions.push(name, arity)
     }
 
     /// Whether one of the first so many declared functions has this name and takes so many
@@ -418,38 +400,8 @@ impl<'q> Walk<'q> {
         requires { number ≤ length self.now.names.functions }
         ensures { result ≡ has_callee (earlier_functions self.now.names number) name.now arity }
     {
-        own_position(&self.functions[..number], name, arity).is_some()
+        self.functions.is_among_first(number, name, arity)
     }
-}
-
-// What was bound first, at most so many.
-fn front<'a, 'q>(names: &'a [Binding<'q>], mark: usize) -> &'a [Binding<'q>]
-    ensures { result.now ≡ take mark names.now }
-{
-    let mark = mark.min(names.len());
-    &names[..mark]
-}
-
-// What was bound behind the first so many.
-fn behind<'a, 'q>(names: &'a [Binding<'q>], base: usize) -> &'a [Binding<'q>]
-    ensures { result.now ≡ drop base names.now }
-{
-    let base = base.min(names.len());
-    &names[base..]
-}
-
-// The slot of the latest binding of a name.
-fn latest(names: &[Binding], name: &Str) -> Option<Slot>
-    ensures { result ≡ slot_found (bindings_of names.now) name.now }
-{
-    let mut rest = names;
-    while let [front @ .., last] = rest {
-        if last.name == name {
-            return Some(last.slot);
-        }
-        rest = front;
-    }
-    None
 }
 
 // The declared function that is called.

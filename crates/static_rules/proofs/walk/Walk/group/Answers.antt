@@ -8,7 +8,7 @@ use Rattle.static_rules.proofs.Stacking.{slot-found, group-tested}
 use Rattle.static_rules.proofs.walk.Walk.group.Goals as goal
 
 pub returns-clause-slot : goal.returns-clause-slot
-returns-clause-slot c = c.unwrap_or.ensures ∙ ap (λ o. unwrap_or o (Local 0)) (c.latest-found.ensures ∙ ap (λ bs. slot_found bs c.args.name.now) c.first_names.ensures) ∙ slot-found (below c.args.mark c.args.self.now.names).variables c.args.name.now
+returns-clause-slot c = c.unwrap_or.ensures ∙ ap (λ o. unwrap_or o (Local 0)) (c.latest_below-found.ensures ∙ ap (λ s. slot_found (below c.args.mark s.names).variables c.args.name.now) c.self.view_is) ∙ slot-found (below c.args.mark c.args.self.now.names).variables c.args.name.now
 
 pub returns-clause-walk : goal.returns-clause-walk
 returns-clause-walk c =
