@@ -1,4 +1,5 @@
-//! Tests of the tables of tuples, of groups, of orders, of keys and of names. There is nothing else in this crate.
+//! Tests of the tables of tuples, of groups, of orders, of keys and of names, and of what pieces
+//! give. There is nothing else in this crate.
 #![tactic(auto)]
 
 #[cfg(test)]
@@ -9,5 +10,7 @@ mod join_lists;
 mod name_lists;
 #[cfg(test)]
 mod order_lists;
+#[cfg(test)]
+mod outcomes;
 #[cfg(test)]
 mod row_lists;

@@ -1,0 +1,6 @@
+use Rattle.std.proofs.Common.{refl}
+use Rattle.table_tests.proofs.PieceLists.{all_known}
+use Rattle.table_tests.proofs.outcomes.takes_the_fault_of_the_earliest_step.Goals as goal
+
+pub gather-found-requires-clause-known : goal.gather-found-requires-clause-known
+gather-found-requires-clause-known g c = all_known c.in_ok-pieces.pieces.items _ c.in_ok-pieces.ensures.items refl
