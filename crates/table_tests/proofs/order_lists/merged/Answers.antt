@@ -1,4 +1,4 @@
-use Rattle.std.proofs.Common.{◌≡◌, ℕ, List, sym, subst}
+use Rattle.std.proofs.Common.{ℕ, List, sym, subst}
 use Rattle.order_runs.specs.declared.run.Run.{Run}
 use Rattle.order_runs.specs.Runs.{AllFit, RunFits}
 use Rattle.order_runs.proofs.RunLists.{fit_pushed}
