@@ -1,0 +1,125 @@
+-- What stages that read an input make of its lines is what is meant.
+use Rattle.std.proofs.Common.{◌≡◌, ℕ, ◌+◌, nat_lt, if◌then◌else◌, true, false, List, [], ◌∷◌, Some, Result, Ok, Err, refl, sym, ap, ◌∙◌, subst, arith}
+use Rattle.item_tree.specs.Datum.{Datum}
+use Rattle.item_tree.specs.declared.fault.Fault.{Fault}
+use Rattle.item_reader.specs.Lines.{Line}
+use Rattle.tuple_rows.specs.Keys.{KeyList, Keyed}
+use Rattle.query_tree.specs.declared.bound.Slot.{Slot}
+use Rattle.query_tree.specs.Bound.{BoundTree}
+use Rattle.query_tree.specs.Scoped.{and_slots}
+use Rattle.query_tree.specs.Plain as p
+use Rattle.query_meaning.specs.Outcome.{OrFault}
+use Rattle.query_meaning.specs.Environment.{Tuple}
+use Rattle.query_meaning.specs.Flwors.{with_slots}
+use Rattle.query_meaning.specs.Pieces.{are_narrow}
+use Rattle.stage_laws.specs.Runs.{Met}
+use Rattle.stage_laws.specs.Stages.{viewed, kept_as}
+use Rattle.stage_laws.specs.Pieces.{Follow}
+use Rattle.stage_laws.specs.Ends.{appended, in_order, ended_by, stage}
+use Rattle.stage_laws.specs.Laws.{Falls}
+use Rattle.stage_laws.proofs.Ends.{kept_falls}
+use Rattle.clause_stages.specs.Steps.{TupleStage, marked, clauses_stage}
+use Rattle.clause_stages.specs.Ends.{items_step, numbers_step, numbered, groups_step, grouped, orders_step, order_clash, in_key_order}
+use Rattle.clause_stages.specs.Values.{how_many, EndValue, behind_clauses, IsEnd}
+use Rattle.clause_stages.specs.Laws.{clause_end, return_end}
+use Rattle.clause_stages.specs.Drivers.{driver_marked}
+use Rattle.clause_stages.specs.InputLines.{line_read}
+use Rattle.clause_stages.proofs.Clauses.{clauses_are_stages}
+use Rattle.clause_stages.proofs.Driving.{drivers_are_stages}
+use Rattle.clause_stages.proofs.EndSteps.{ends_are_steps}
+use Rattle.clause_stages.proofs.OrderSteps.{orders_are_steps}
+use Rattle.clause_stages.proofs.Flwors.{flwors_are_stages}
+use Rattle.piece_outcomes.specs.Came.{Came, Seen, nothing_came, came_behind, follow, keyed_came}
+use Rattle.piece_outcomes.specs.Counting.{met_of}
+use Rattle.piece_outcomes.specs.Outcomes.{ResultIs}
+use Rattle.piece_outcomes.specs.Orders as order
+use Rattle.piece_outcomes.specs.declared.met.MetFault.{MetFault}
+use Rattle.piece_outcomes.specs.declared.outcome.Gathered.{Gathered}
+use Rattle.piece_outcomes.specs.declared.outcome.Gathered.TheVariants as given
+use Rattle.piece_run.specs.Ends.{items_came, tuples_came, items_end, numbers_end, groups_end}
+use Rattle.piece_run.specs.Meanings.{LinesFor, all_clauses, GivesLines, lines_run, lines_ended, clauses_to, DrivenStagesGiveValues, ResultsMean, GatheredMeans}
+
+-- the `for`, the clauses after it and any end
+driven_means : {B C K : Type 0} (d : LinesFor) (stream : List Slot) (lines : List Line) (value : EndValue C) (last_step : ℕ → TupleStage B K) (finish : List Slot → B → OrFault C)
+    (empty : B) (follow : ℕ → Follow B K Fault)
+    → ((number : ℕ) → Falls number number empty (follow number) (last_step number)) → IsEnd value last_step finish → GivesLines d lines → are_narrow d.clauses ≡ true
+    → behind_clauses d.inner (d.reading + 1) stream (all_clauses d) d.env value (d.tuple ∷ [])
+    ≡ lines_ended d (finish (and_slots stream (all_clauses d))) (lines_run d last_step lines)
+driven_means {B = B} {C = C} {K = K} d stream lines value last_step finish empty follow falls is_end gives narrow =
+    let law = clauses_are_stages B C K in
+    let first = d.reading + 2 in
+    let bound = with_slots stream (p.for_clause d.variable d.of false d.at d.source) in
+    let last = first + how_many d.clauses in
+    let rest = clauses_stage d.inner first d.clauses d.env last_step in
+    let ended = finish (and_slots bound d.clauses) in
+    let next : d.reading + 2 ≡ d.reading + 1 + 1 = omega arith in
+    let rest_falls : Falls first last empty (follow last) rest = law.falls d.inner first last d.clauses d.env empty (follow last) last_step (omega arith) (falls last) in
+    let is : (ts : List Tuple) → behind_clauses d.inner (d.reading + 1 + 1) bound d.clauses d.env value ts ≡ stage marked ended rest ts =
+    λ ts. subst (λ (n : ℕ). behind_clauses d.inner n bound d.clauses d.env value ts ≡ stage marked ended rest ts) next
+    (law.means d.inner first bound d.clauses d.env value last_step finish narrow is_end ts) in
+    (drivers_are_stages Line B C K).means d.inner d.reading last stream d.variable d.of d.at d.source d.env d.tuple (line_read d.place) lines empty (follow last) rest
+    (behind_clauses d.inner (d.reading + 1 + 1) bound d.clauses d.env value) ended gives rest_falls is
+
+-- the same steps, where something else is kept of what comes out
+ended_view : {B W C K : Type 0} (mark : Met K Fault → Fault) (view : B → W) (finish : B → OrFault C) (finish_kept : W → OrFault C) → ((x : B) → finish x ≡ finish_kept (view x))
+    → (q : Result B (Met K Fault)) → ended_by mark finish q ≡ ended_by mark finish_kept (viewed view q)
+ended_view mark view finish finish_kept h (Ok x) = h x
+ended_view mark view finish finish_kept h (Err e) = refl
+
+kept_end : {B W C K : Type 0} (view : B → W) (value : EndValue C) (last_step : ℕ → TupleStage B K) (finish : List Slot → B → OrFault C) (finish_kept : List Slot → W → OrFault C)
+    → ((stream : List Slot) (x : B) → finish stream x ≡ finish_kept stream (view x)) → IsEnd value last_step finish
+    → IsEnd value (λ n. kept_as view (last_step n)) finish_kept
+kept_end view value last_step finish finish_kept h is number stream ts =
+    is number stream ts ∙ ended_view marked view (finish stream) (finish_kept stream) (h stream) ((last_step number).run ts)
+
+pub driven_stages_give_values : DrivenStagesGiveValues
+driven_stages_give_values = record {
+  items = λ d stream lines body gives narrow.
+      let steps = items_step {K = Seen} d.inner body d.env in
+      (flwors_are_stages Seen).ends d.inner (d.reading + 1) stream (all_clauses d) body d.env (d.tuple ∷ [])
+      ∙ driven_means d stream lines (return_end d.inner body d.env) (items_end d.inner body d.env) (λ s came. Ok came.items) nothing_came (λ n. follow)
+      (λ n. kept_falls n n items_came came_behind (steps n) (λ xs ys. refl) ((ends_are_steps Seen).items_fall d.inner body d.env n))
+      (kept_end items_came (return_end d.inner body d.env) steps (λ s xs. Ok xs) (λ s came. Ok came.items) (λ s x. refl) ((ends_are_steps Seen).items d.inner body d.env)) gives narrow;
+  numbers = λ d stream lines place variable gives narrow.
+      let value = clause_end d.inner (p.count_clause place variable) d.env in
+      driven_means d stream lines value numbers_end (λ s came. Ok (numbered variable came.tuples)) nothing_came (λ n. follow)
+      (λ n. kept_falls n n tuples_came came_behind (numbers_step n) (λ xs ys. refl) ((ends_are_steps Seen).numbers_fall n))
+      (kept_end tuples_came value (numbers_step {K = Seen}) (λ s ts. Ok (numbered variable ts)) (λ s came. Ok (numbered variable came.tuples)) (λ s x. refl) ((ends_are_steps Seen).numbers d.inner place variable d.env)) gives narrow;
+  groups = λ d stream lines place keys gives narrow.
+      let value = clause_end d.inner (p.group_clause place keys) d.env in
+      let steps = groups_step {K = Seen} d.inner keys d.env in
+      driven_means d stream lines value (groups_end d.inner keys d.env) (λ s came. Ok (grouped keys d.env s came.keyed)) nothing_came (λ n. follow)
+      (λ n. kept_falls n n keyed_came came_behind (steps n) (λ xs ys. refl) ((ends_are_steps Seen).groups_fall d.inner keys d.env n))
+      (kept_end keyed_came value steps (λ s ks. Ok (grouped keys d.env s ks)) (λ s came. Ok (grouped keys d.env s came.keyed)) (λ s x. refl) ((ends_are_steps Seen).groups d.inner place keys d.env)) gives narrow;
+  orders = λ d stream lines place stable keys gives narrow.
+      let value = clause_end d.inner (p.order_clause place stable keys) d.env in
+      driven_means d stream lines value (orders_step d.inner keys d.env) (λ s ks. Ok (in_key_order keys ks)) [] (λ n. in_order n (order_clash keys))
+      (orders_are_steps.orders_fall d.inner keys d.env) (orders_are_steps.orders d.inner place stable keys d.env) gives narrow;
+}
+
+-- ---- what was gathered
+
+came_means : {W C : Type 0} (stands : W → Came → Type 0) (g : Gathered W) (r : Result Came (Met Seen Fault)) (finish : Came → OrFault C) (number : ℕ) (meant : OrFault C)
+    → ResultIs stands g r → meant ≡ ended_by (driver_marked number) finish r → GatheredMeans stands finish number meant g
+came_means stands (given.Whole w) (Ok came) finish number meant is e = (came, is, e)
+came_means stands (given.Whole w) (Err d) finish number meant is e = absurd is
+came_means stands (given.Met m) (Ok came) finish number meant is e = absurd is
+came_means stands (given.Met m) (Err d) finish number meant is e = e ∙ ap (λ (f : Met Seen Fault). Err (driver_marked number f)) is
+
+marked_so : (number : ℕ) (m : MetFault) (d : Met KeyList Fault) → order.MetIs m d → driver_marked number d ≡ driver_marked number (met_of {K = Seen} m)
+marked_so number m d is =
+    let at : ℕ → ℕ → Fault → Fault = λ step tuple fault. driver_marked {K = Seen} number (record { step = step; tuple = tuple; fault = fault; seen = [] }) in
+    ap (λ (n : ℕ). at n d.tuple d.fault) is.step ∙ ap (λ (n : ℕ). at m.step n d.fault) is.tuple ∙ ap (at m.step m.tuple) is.fault
+
+ordered_means : {W C : Type 0} (stands : W → Came → Type 0) (g : Gathered W) (r : Result (List Keyed) (Met KeyList Fault)) (finish : List Keyed → OrFault C) (number : ℕ) (meant : OrFault C)
+    → order.ResultIs stands g r → meant ≡ ended_by (driver_marked number) finish r → GatheredMeans (λ w keyed. stands w (keyed_came keyed)) finish number meant g
+ordered_means stands (given.Whole w) (Ok ks) finish number meant is e = (ks, is, e)
+ordered_means stands (given.Whole w) (Err d) finish number meant is e = absurd is
+ordered_means stands (given.Met m) (Ok ks) finish number meant is e = absurd is
+ordered_means stands (given.Met m) (Err d) finish number meant is e = e ∙ ap Err (marked_so number m d is)
+
+pub results_mean : {W : Type 0} (stands : W → Came → Type 0) (C : Type 0) → ResultsMean stands C
+results_mean stands C = record {
+  came = λ g r finish number meant is e. came_means stands g r finish number meant is e;
+  ordered = λ g r finish number meant is e. ordered_means stands g r finish number meant is e;
+}

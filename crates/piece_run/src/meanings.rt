@@ -1,0 +1,16 @@
+//! Laws of stages that read an input, in the words of the meaning.
+
+ghost use Rattle.piece_run.specs.Meanings.{DrivenStagesGiveValues, ResultsMean};
+
+use piece_outcomes::Kept;
+
+/// What is finished of what a stage makes of the lines of an input is what the `for` over them means,
+/// with the clauses after it and `return`, `count`, `group by` or `order by`.
+pub fn driven_stages_give_values()
+    ensures { DrivenStagesGiveValues }
+{}
+
+/// What was gathered of pieces is what is meant, where what the stage makes of the whole is.
+pub fn results_mean<W: Kept, C>()
+    ensures { ResultsMean W.stands C }
+{}
