@@ -1,21 +1,23 @@
 -- What stages that read an input make of its lines is what is meant.
-use Rattle.std.proofs.Common.{◌≡◌, ℕ, ◌+◌, nat_lt, if◌then◌else◌, true, false, List, [], ◌∷◌, Some, Result, Ok, Err, refl, sym, ap, ◌∙◌, subst, arith}
-use Rattle.item_tree.specs.Datum.{Datum}
+use Rattle.std.proofs.Common.{◌≡◌, ℕ, ◌+◌, true, false, List, [], ◌∷◌, Option, Result, Ok, Err, refl, ap, ◌∙◌, subst, arith}
 use Rattle.item_tree.specs.declared.fault.Fault.{Fault}
 use Rattle.item_reader.specs.Lines.{Line}
 use Rattle.tuple_rows.specs.Keys.{KeyList, Keyed}
 use Rattle.query_tree.specs.declared.bound.Slot.{Slot}
-use Rattle.query_tree.specs.Bound.{BoundTree}
 use Rattle.query_tree.specs.Scoped.{and_slots}
+use Rattle.query_tree.specs.declared.bound.Target.{Target}
 use Rattle.query_tree.specs.Plain as p
+use Rattle.query_tree.specs.Plain.{PlainOrderKeys}
+use Rattle.seq_types.specs.declared.types.SeqType.{SeqType}
+use Rattle.query_meaning.specs.Orders.{column_places}
 use Rattle.query_meaning.specs.Outcome.{OrFault}
-use Rattle.query_meaning.specs.Environment.{Tuple}
+use Rattle.query_meaning.specs.Environment.{Tuple, Environment, Inner}
 use Rattle.query_meaning.specs.Flwors.{with_slots}
 use Rattle.query_meaning.specs.Pieces.{are_narrow}
 use Rattle.stage_laws.specs.Runs.{Met}
 use Rattle.stage_laws.specs.Stages.{viewed, kept_as}
 use Rattle.stage_laws.specs.Pieces.{Follow}
-use Rattle.stage_laws.specs.Ends.{appended, in_order, ended_by, stage}
+use Rattle.stage_laws.specs.Ends.{in_order, ended_by, stage}
 use Rattle.stage_laws.specs.Laws.{Falls}
 use Rattle.stage_laws.proofs.Ends.{kept_falls}
 use Rattle.clause_stages.specs.Steps.{TupleStage, marked, clauses_stage}
@@ -36,8 +38,8 @@ use Rattle.piece_outcomes.specs.Orders as order
 use Rattle.piece_outcomes.specs.declared.met.MetFault.{MetFault}
 use Rattle.piece_outcomes.specs.declared.outcome.Gathered.{Gathered}
 use Rattle.piece_outcomes.specs.declared.outcome.Gathered.TheVariants as given
-use Rattle.piece_run.specs.Ends.{items_came, tuples_came, items_end, numbers_end, groups_end}
-use Rattle.piece_run.specs.Meanings.{LinesFor, all_clauses, GivesLines, lines_run, lines_ended, clauses_to, DrivenStagesGiveValues, ResultsMean, GatheredMeans}
+use Rattle.piece_run.specs.Ends.{StageEnd, items, numbers, groups, end_step, items_came, tuples_came, items_end, numbers_end, groups_end}
+use Rattle.piece_run.specs.Meanings.{LinesFor, all_clauses, input_stage, end_number, DrivenStagesFall, GivesLines, lines_run, lines_ended, DrivenStagesGiveValues, ResultsMean, GatheredMeans}
 
 -- the `for`, the clauses after it and any end
 driven_means : {B C K : Type 0} (d : LinesFor) (stream : List Slot) (lines : List Line) (value : EndValue C) (last_step : ℕ → TupleStage B K) (finish : List Slot → B → OrFault C)
@@ -95,6 +97,37 @@ driven_stages_give_values = record {
       let value = clause_end d.inner (p.order_clause place stable keys) d.env in
       driven_means d stream lines value (orders_step d.inner keys d.env) (λ s ks. Ok (in_key_order keys ks)) [] (λ n. in_order n (order_clash keys))
       (orders_are_steps.orders_fall d.inner keys d.env) (orders_are_steps.orders d.inner place stable keys d.env) gives narrow;
+}
+
+-- ---- stages that fall into pieces
+
+driven_falls : {B K : Type 0} (d : LinesFor) (last_step : ℕ → TupleStage B K) (empty : B) (follow : Follow B K Fault) → Falls (end_number d) (end_number d) empty follow (last_step (end_number d))
+    → Falls d.reading (end_number d) empty follow (input_stage d last_step)
+driven_falls {B = B} {K = K} d last_step empty follow falls =
+    let first = d.reading + 2 in
+    let last = end_number d in
+    let rest = clauses_stage d.inner first d.clauses d.env last_step in
+    let rest_falls : Falls first last empty follow rest = (clauses_are_stages B B K).falls d.inner first last d.clauses d.env empty follow last_step (omega arith) falls in
+    (drivers_are_stages Line B B K).falls d.reading last d.variable d.of d.at d.tuple (line_read d.place) empty follow rest rest_falls (omega arith)
+
+end_falls : (inner : Inner) (env : Environment) (end : StageEnd) (number : ℕ) → Falls number number nothing_came follow (end_step inner env end number)
+end_falls inner env (items body) number =
+    kept_falls number number items_came came_behind (items_step inner body env number) (λ xs ys. refl) ((ends_are_steps Seen).items_fall inner body env number)
+end_falls inner env numbers number =
+    kept_falls number number tuples_came came_behind (numbers_step number) (λ xs ys. refl) ((ends_are_steps Seen).numbers_fall number)
+end_falls inner env (groups keys) number =
+    kept_falls number number keyed_came came_behind (groups_step inner keys env number) (λ xs ys. refl) ((ends_are_steps Seen).groups_fall inner keys env number)
+
+same_clash : (keys : PlainOrderKeys Slot Target SeqType) → order_clash keys ≡ order.clash_at (column_places keys)
+same_clash keys = refl
+
+pub driven_stages_fall : DrivenStagesFall
+driven_stages_fall = record {
+  ends = λ d end. driven_falls d (end_step d.inner d.env end) nothing_came follow (end_falls d.inner d.env end (end_number d));
+  orders = λ d keys.
+      let last = end_number d in
+      driven_falls d (orders_step d.inner keys d.env) [] (in_order last (order.clash_at (column_places keys)))
+      (subst (λ (clash : List KeyList → KeyList → Option Fault). Falls last last [] (in_order last clash) (orders_step d.inner keys d.env last)) (same_clash keys) (orders_are_steps.orders_fall d.inner keys d.env last));
 }
 
 -- ---- what was gathered

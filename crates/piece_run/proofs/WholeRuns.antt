@@ -1,5 +1,5 @@
 -- The outputs of all pieces tell what a stage makes of the whole.
-use Rattle.std.proofs.Common.{◌≡◌, ℕ, zero, suc, ◌+◌, ◌≤◌, List, [], ◌∷◌, ◌++◌, length, flat_map, slice_get, Option, None, Some, Result, Ok, Err, IfOk, refl, sym, ap, ◌∙◌, subst, arith}
+use Rattle.std.proofs.Common.{◌≡◌, ℕ, suc, ◌+◌, ◌≤◌, List, [], ◌∷◌, ◌++◌, length, flat_map, slice_get, Option, None, Some, Result, Ok, Err, IfOk, refl, sym, ap, ◌∙◌, subst, arith}
 use Rattle.std.specs.List.{range_with_len}
 use Rattle.item_tree.specs.declared.fault.Fault.{Fault}
 use Rattle.item_reader.specs.Lines.{Line}
@@ -15,11 +15,12 @@ use Rattle.stage_laws.specs.Laws.{AllWithin, AllCarry}
 use Rattle.stage_laws.specs.Limits.{TellTheSame}
 use Rattle.stage_laws.proofs.Ends.{outcomes_tell}
 use Rattle.stage_laws.proofs.Limits.{limits_are_enough}
+use Rattle.board_core.specs.declared.event.CoreEvent.{CoreEvent}
 use Rattle.piece_board.specs.declared.job.Pieces.{Pieces}
 use Rattle.piece_board.specs.Whole.{IsWhole}
 use Rattle.piece_board.proofs.Limits.{limits_enough}
 use Rattle.piece_outcomes.specs.Came.{Came, Seen, nothing_came, follow}
-use Rattle.piece_outcomes.specs.Counting.{taken_by, met_of, step_of, told_step, order_step_of, order_told_step}
+use Rattle.piece_outcomes.specs.Counting.{taken_by, step_of, told_step, order_step_of, order_told_step}
 use Rattle.piece_outcomes.specs.Outcomes.{OutcomeIs, AllDone, GatheredIs, ResultIs}
 use Rattle.piece_outcomes.specs.Orders as order
 use Rattle.piece_outcomes.specs.Orders.{clash_at, AllWide}
@@ -33,7 +34,7 @@ use Rattle.piece_outcomes.specs.declared.outcome.OrderCounted.{OrderCounted}
 use Rattle.piece_outcomes.specs.declared.outcome.Gathered.{Gathered}
 use Rattle.piece_run.specs.Outcomes.{IsOutcomeOf}
 use Rattle.piece_run.specs.Ordering.{IsOrderOutcomeOf}
-use Rattle.piece_run.specs.Gathering.{OnPieces, IsWholeRun, IsWholeOrder, IsWideOutcomeOf, all_lists, whole_run}
+use Rattle.piece_run.specs.Gathering.{OnPieces, IsWholeRun, IsWholeOrder, IsWideOutcomeOf, whole_run}
 use Rattle.piece_run.proofs.Within.{limit_within}
 
 -- ---- lists by place
@@ -240,3 +241,33 @@ orders_gathered stands places step pieces (Ok g) h = λ o same w.
     let t = order_told_whole stands places step o pieces same w in
     order_result_is stands g (gathered (in_order step (clash_at places)) (nothing_yet []) t.plains).what (whole_run o) t.is (h t.plains t.done)
 orders_gathered stands places step pieces (Err e) h = tt
+
+-- ---- lists that stand for outputs
+
+-- where each output is that of some list, there is a list for each piece
+pub lists_chosen : {X O : Type 0} (none : X) (tells : O → Option ℕ) (of : X → ℕ → ℕ → O → Type 0) (total full : ℕ) (done : List (Done O)) (events : List CoreEvent)
+    → IsWhole tells (λ p limit out. (x : X) × of x p limit out) total full done events
+    → (lists : ℕ → X) × IsWhole tells (λ p limit out. of (lists p) p limit out) total full done events
+lists_chosen {X = X} {O = O} none tells of total full done events w =
+    let pick : (p : ℕ) (o : Option (Done O)) → slice_get done p ≡ o → X = λ p o.
+    elim o as (λ q. slice_get done p ≡ q → X) [
+      | None ↦ λ e. none
+      | Some d ↦ λ e. (w.each p d e).is_good.0
+    ] in
+    let lists : ℕ → X = λ p. pick p (slice_get done p) refl in
+    let is : (p : ℕ) (o : Option (Done O)) (e : slice_get done p ≡ o) (d : Done O) → o ≡ Some d → of (pick p o e) p d.limit d.out = λ p o.
+    elim o as (λ q. (e : slice_get done p ≡ q) (d : Done O) → q ≡ Some d → of (pick p q e) p d.limit d.out) [
+      | None ↦ λ e d s. absurd cc
+      | Some c ↦ λ e d s.
+          let same : c ≡ d = cc in
+          subst (λ (b : Done O). of (w.each p c e).is_good.0 p b.limit b.out) same (w.each p c e).is_good.1
+    ] in (
+      lists,
+      record {
+        count = w.count;
+        each = λ p d e.
+            let at = w.each p d e in
+            record { here = at.here; is_good = is p (slice_get done p) refl d e; taken = at.taken; told = at.told };
+        ends = w.ends;
+      },
+    )

@@ -1,5 +1,5 @@
 -- No limit of a whole run is past the one at which all steps are run.
-use Rattle.std.proofs.Common.{◌≡◌, ◌<◌, ◌≤◌, ◌⊎◌, ◌==◌, ℕ, Bool, true, false, List, [], ◌∷◌, Option, None, Some, if◌then◌else◌, refl, ap, sym, subst, inl, inr, arith}
+use Rattle.std.proofs.Common.{◌≡◌, ◌<◌, ◌≤◌, ◌==◌, ℕ, Bool, true, false, List, [], ◌∷◌, Option, None, Some, if◌then◌else◌, ap, sym, subst, arith}
 use Rattle.fault_merge.specs.declared.at.At.{At}
 use Rattle.fault_merge.specs.declared.done.Done.{Done}
 use Rattle.fault_merge.specs.Places.{least_of, is_before}

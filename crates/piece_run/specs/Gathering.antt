@@ -1,5 +1,5 @@
 -- What a stage makes of a whole input, by the outputs of its pieces.
-use Rattle.std.specs.Prelude.{ℕ, ◌+◌, List, [], flat_map, length, Result}
+use Rattle.std.specs.Prelude.{◌≡◌, ℕ, ◌+◌, List, [], flat_map, length, Result}
 use Rattle.std.specs.List.{range_with_len}
 use Rattle.item_tree.specs.declared.fault.Fault.{Fault}
 use Rattle.item_reader.specs.Lines.{Line}
@@ -8,6 +8,7 @@ use Rattle.stage_laws.specs.Runs.{Met}
 use Rattle.stage_laws.specs.Stages.{Stage}
 use Rattle.stage_laws.specs.Ends.{in_order}
 use Rattle.stage_laws.specs.Laws.{Falls}
+use Rattle.clause_stages.specs.Drivers.{numbered_lines}
 use Rattle.piece_board.specs.declared.job.Pieces.{Pieces}
 use Rattle.piece_board.specs.Whole.{IsWhole}
 use Rattle.piece_outcomes.specs.Came.{Came, Seen, nothing_came, follow}
@@ -33,6 +34,20 @@ all_lists o = flat_map o.lists (range_with_len 0 o.total)
 -- what the stage makes of them all
 abbrev pub whole_run : {B K : Type 0} → OnPieces B K → Result B (Met K Fault)
 whole_run o = o.stage.run (all_lists o)
+
+-- how many lines stand before a piece
+abbrev pub lines_before : (ℕ → List Line) → ℕ → ℕ
+lines_before lists p = length (flat_map lists (range_with_len 0 p))
+
+-- the lines of a piece with their numbers in the whole input
+abbrev pub numbered_piece : (ℕ → List Line) → ℕ → List (ℕ × Line)
+numbered_piece lists p = numbered_lines (lines_before lists p + 1) (lists p)
+
+-- so numbered, all pieces one after the other are the lines of the input with their numbers
+abbrev pub PiecesAreNumbered : Type 0
+PiecesAreNumbered = (lists : ℕ → List Line) (total : ℕ)
+    → flat_map (numbered_piece lists) (range_with_len 0 total)
+    ≡ numbered_lines 1 (flat_map lists (range_with_len 0 total))
 
 -- The outputs of all pieces are those of the stage on their lists, at the limits of one schedule;
 -- and the stage falls into pieces.

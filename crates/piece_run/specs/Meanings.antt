@@ -14,21 +14,23 @@ use Rattle.query_tree.specs.Plain as p
 use Rattle.query_tree.specs.Plain.{PlainClause, PlainClauses, PlainGroupVars, PlainOrderKeys}
 use Rattle.query_meaning.specs.Outcome.{OrFault, each}
 use Rattle.query_meaning.specs.Environment.{Tuple, Environment, Inner, in_tuple}
-use Rattle.query_meaning.specs.Flwors.{with_slots, flwor_from}
+use Rattle.query_meaning.specs.Flwors.{flwor_from}
+use Rattle.query_meaning.specs.Orders.{column_places}
 use Rattle.query_meaning.specs.Pieces.{are_narrow}
 use Rattle.stage_laws.specs.Runs.{Met}
-use Rattle.stage_laws.specs.Ends.{ended_by}
+use Rattle.stage_laws.specs.Stages.{Stage}
+use Rattle.stage_laws.specs.Ends.{ended_by, in_order}
+use Rattle.stage_laws.specs.Laws.{Falls}
 use Rattle.clause_stages.specs.Steps.{TupleStage, clauses_stage}
 use Rattle.clause_stages.specs.Ends.{numbered, grouped, orders_step, in_key_order}
-use Rattle.clause_stages.specs.Values.{behind_clauses}
+use Rattle.clause_stages.specs.Values.{how_many, behind_clauses}
 use Rattle.clause_stages.specs.Laws.{clause_end}
 use Rattle.clause_stages.specs.Drivers.{numbered_lines, line_item, driven_stage, driver_marked}
 use Rattle.clause_stages.specs.InputLines.{line_read}
-use Rattle.piece_outcomes.specs.Came.{Came, Seen}
+use Rattle.piece_outcomes.specs.Came.{Came, Seen, nothing_came, follow, keyed_came}
 use Rattle.piece_outcomes.specs.Counting.{met_of}
 use Rattle.piece_outcomes.specs.Outcomes.{ResultIs}
 use Rattle.piece_outcomes.specs.Orders as order
-use Rattle.piece_outcomes.specs.Came.{keyed_came}
 use Rattle.piece_outcomes.specs.declared.outcome.Gathered.{Gathered}
 use Rattle.piece_outcomes.specs.declared.outcome.Gathered.TheVariants as given
 use Rattle.piece_run.specs.Ends.{StageEnd, items, numbers, groups, end_step}
@@ -61,12 +63,31 @@ abbrev pub GivesLines : LinesFor → List Line → Type 0
 GivesLines d lines =
     d.inner d.source (in_tuple d.env d.tuple) ≡ each (line_item (line_read d.place)) lines
 
--- what the stage of these clauses makes of the lines, where it ends in this step
+-- the stage of these clauses, where it ends in this step
+abbrev pub input_stage : {B K : Type 0} → LinesFor → (ℕ → TupleStage B K)
+    → Stage (ℕ × Line) B K Fault
+input_stage d last_step =
+    driven_stage d.reading (line_read d.place) d.variable d.of d.at d.tuple
+    (clauses_stage d.inner (d.reading + 2) d.clauses d.env last_step)
+
+-- the number of its end, which is the last step
+abbrev pub end_number : LinesFor → ℕ
+end_number d = d.reading + 2 + how_many d.clauses
+
+-- The stage falls into pieces.
+pub record DrivenStagesFall : Type 0 where
+  pub ends : (d : LinesFor) (end : StageEnd)
+      → Falls d.reading (end_number d) nothing_came follow
+      (input_stage d (end_step d.inner d.env end))
+  pub orders : (d : LinesFor) (keys : PlainOrderKeys Slot Target SeqType)
+      → Falls d.reading (end_number d) []
+      (in_order (end_number d) (order.clash_at (column_places keys)))
+      (input_stage d (orders_step d.inner keys d.env))
+
+-- what it makes of all lines of the input
 abbrev pub lines_run : {B K : Type 0} → LinesFor → (ℕ → TupleStage B K) → List Line
     → Result B (Met K Fault)
-lines_run d last_step lines =
-    (driven_stage d.reading (line_read d.place) d.variable d.of d.at d.tuple
-    (clauses_stage d.inner (d.reading + 2) d.clauses d.env last_step)).run (numbered_lines 1 lines)
+lines_run d last_step lines = (input_stage d last_step).run (numbered_lines 1 lines)
 
 -- what an end makes of it; a fault is marked with its clause and tuple
 abbrev pub lines_ended : {B C K : Type 0} → LinesFor → (B → OrFault C) → Result B (Met K Fault)

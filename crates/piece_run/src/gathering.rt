@@ -9,7 +9,7 @@ ghost use Rattle.piece_run.specs.Gathering.{OnPieces, IsWholeRun, IsWholeOrder, 
 
 use item_tree::NoMemory;
 use piece_board::Pieces;
-use piece_outcomes::{gather, gather_orders, Counted, Gathered, Kept, OrderCounted};
+use piece_outcomes::{Counted, Gathered, Kept, OrderCounted, gather, gather_orders};
 use std::alloc::Global;
 
 /// What a stage makes of all pieces of an input, one after the other: all that comes out, or the

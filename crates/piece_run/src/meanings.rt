@@ -1,11 +1,24 @@
 //! Laws of stages that read an input, in the words of the meaning.
 
-ghost use Rattle.piece_run.specs.Meanings.{DrivenStagesGiveValues, ResultsMean};
+ghost use Rattle.piece_run.specs.Gathering.{PiecesAreNumbered};
+ghost use Rattle.piece_run.specs.Meanings.{DrivenStagesFall, DrivenStagesGiveValues, ResultsMean};
 
 use piece_outcomes::Kept;
 
-/// What is finished of what a stage makes of the lines of an input is what the `for` over them means,
-/// with the clauses after it and `return`, `count`, `group by` or `order by`.
+/// Lines that are numbered piece by piece, each from how many stand before it, are numbered through
+/// the input.
+pub fn pieces_are_numbered()
+    ensures { PiecesAreNumbered }
+{}
+
+/// The stage of a `for` over the lines of an input, with narrow clauses and an end after it, falls
+/// into pieces.
+pub fn driven_stages_fall()
+    ensures { DrivenStagesFall }
+{}
+
+/// What is finished of what a stage makes of the lines of an input is what the `for` over them
+/// means, with the clauses after it and `return`, `count`, `group by` or `order by`.
 pub fn driven_stages_give_values()
     ensures { DrivenStagesGiveValues }
 {}
