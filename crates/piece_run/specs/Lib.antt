@@ -1,0 +1,9 @@
+pub mod Remade
+pub mod Phases
+pub mod Ends
+pub mod Outcomes
+pub mod Keying
+pub mod Ordering
+pub mod Stages
+pub mod Staged
+pub mod HaveKeys
