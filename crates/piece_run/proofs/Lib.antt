@@ -5,3 +5,10 @@ pub mod EndCarries
 mod KeysNext
 pub mod OrderedNext
 mod GroupKeys
+mod Driving
+mod Bridges
+mod DriverTells
+mod EndFalls
+mod Sums
+mod ToldBelow
+mod Texts

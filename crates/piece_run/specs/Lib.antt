@@ -7,3 +7,6 @@ pub mod Ordering
 pub mod Stages
 pub mod Staged
 pub mod HaveKeys
+pub mod Driven
+pub mod Seats
+pub mod Texts

@@ -11,7 +11,7 @@ use piece_outcomes::Kept;
 use std::alloc::Global;
 
 /// What is kept of items, as their text or their sum. `stands` says of which items it may be kept.
-pub trait ItemsKept: Send + Drop {
+pub trait ItemsKept: Drop {
     ghost stands: { Self → List Datum → Type 0 };
 
     /// What is kept of no items.

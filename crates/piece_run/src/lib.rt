@@ -1,18 +1,27 @@
-//! One stage of a FLWOR over a piece of an input: the clauses below a limit, and the end of the
-//! stage.
+//! One stage of a FLWOR over the pieces of an input: the clauses below a limit, and the end of the
+//! stage, on tuples or on the lines of a piece.
 #![tactic(auto)]
 
 mod came;
 mod carrying;
 mod counts;
+mod driven;
 mod ends;
 mod finish;
+mod job;
 mod keying;
 pub mod laws;
 mod order;
 mod ordering;
+mod piece;
+mod reading;
+mod seat;
 mod stage;
+mod text;
 
 pub use came::{CameOut, ItemsKept};
 pub use finish::{finish_groups, finish_numbers, finish_order};
+pub use job::DrivenJob;
+pub use seat::Seat;
 pub use stage::{DrivenStage, NarrowSteps, StageEnd};
+pub use text::Text;
