@@ -1,6 +1,6 @@
 -- What a `for` over the lines of an input means, with the clauses after it and an end, by what its
 -- stage makes of the lines.
-use Rattle.std.specs.Prelude.{◌≡◌, ℕ, ◌+◌, Bool, true, false, List, [], ◌∷◌, Option, Result, Ok, Err}
+use Rattle.std.specs.Prelude.{◌≡◌, ℕ, ◌+◌, Bool, true, false, List, [], ◌∷◌, length, Option, Result, Ok, Err}
 use Rattle.item_tree.specs.declared.fault.Fault.{Fault}
 use Rattle.item_reader.specs.Lines.{Line}
 use Rattle.seq_types.specs.declared.types.SeqType.{SeqType}
@@ -126,6 +126,14 @@ pub record DrivenStagesGiveValues : Type 0 where
       → clauses_to d stream (p.order_clause place stable keys)
       ≡ lines_ended d (λ keyed. Ok (in_key_order keys keyed))
       (lines_run d (orders_step d.inner keys d.env) lines)
+
+-- Clauses see no frame but those of their tuples: of the frame outside, they use its length.
+abbrev pub FramesAreTuples : Type 0
+FramesAreTuples = (inner : Inner) (number : ℕ) (stream : List Slot)
+    (clauses : PlainClauses Slot Target SeqType) (body : BoundTree) (env : Environment)
+    (frame : Tuple) (tuples : List Tuple) → length frame ≡ length env.frame
+    → flwor_from inner number stream clauses body (in_tuple env frame) tuples
+    ≡ flwor_from inner number stream clauses body env tuples
 
 -- ---- what was gathered
 

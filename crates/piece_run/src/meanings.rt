@@ -1,7 +1,7 @@
 //! Laws of stages that read an input, in the words of the meaning.
 
 ghost use Rattle.piece_run.specs.Gathering.{PiecesAreNumbered};
-ghost use Rattle.piece_run.specs.Meanings.{DrivenStagesFall, DrivenStagesGiveValues, ResultsMean};
+ghost use Rattle.piece_run.specs.Meanings.{DrivenStagesFall, DrivenStagesGiveValues, FramesAreTuples, ResultsMean};
 
 use piece_outcomes::Kept;
 
@@ -21,6 +21,11 @@ pub fn driven_stages_fall()
 /// means, with the clauses after it and `return`, `count`, `group by` or `order by`.
 pub fn driven_stages_give_values()
     ensures { DrivenStagesGiveValues }
+{}
+
+/// A FLWOR means the same in any frame of the same length: its clauses see those of their tuples.
+pub fn frames_are_tuples()
+    ensures { FramesAreTuples }
 {}
 
 /// What was gathered of pieces is what is meant, where what the stage makes of the whole is.
