@@ -1,0 +1,88 @@
+-- What workers give for all pieces of an input is a whole run.
+use Rattle.std.proofs.Common.{◌≡◌, ℕ, zero, suc, ◌+◌, ◌<◌, ◌≤◌, List, [], ◌∷◌, length, slice_get, Option, None, Some, IfSome, refl, ap, ◌∙◌, subst, arith}
+use Rattle.item_tree.specs.Datum.{Datum}
+use Rattle.item_reader.specs.Lines.{Line}
+use Rattle.line_pieces.specs.Pieces.{told_piece}
+use Rattle.query_tree.specs.declared.bound.Slot.{Slot}
+use Rattle.query_tree.specs.declared.names.Placed.{Placed}
+use Rattle.fault_merge.specs.declared.done.Done.{Done}
+use Rattle.stage_laws.specs.Laws.{Falls}
+use Rattle.stage_laws.proofs.Steps.{driver_falls}
+use Rattle.clause_stages.specs.Drivers.{numbered_lines, placed_item}
+use Rattle.clause_stages.specs.InputLines.{line_read}
+use Rattle.board_core.specs.declared.event.CoreEvent.{CoreEvent}
+use Rattle.piece_board.specs.Whole.{IsWhole}
+use Rattle.piece_outcomes.specs.Came.{Came, Seen, nothing_came, follow}
+use Rattle.piece_outcomes.specs.Counting.{told_step}
+use Rattle.piece_outcomes.specs.declared.outcome.Counted.{Counted}
+use Rattle.piece_run.specs.Driven.{MayBegin, items_stage, stage_of}
+use Rattle.piece_run.specs.Gathering.{OnPieces, lines_before, numbered_piece}
+use Rattle.piece_run.specs.Inputs.{RunsAreWhole}
+use Rattle.piece_run.specs.Outcomes.{CameIs, IsOutcomeOf}
+use Rattle.piece_run.specs.Seats.{first_line, IsOfLines, IsKeyedPiece}
+use Rattle.piece_run.specs.Staged.{last_step}
+use Rattle.piece_run.specs.declared.came.CameOut.{CameOut}
+use Rattle.piece_run.specs.declared.stage.DrivenStage.{DrivenStage}
+use Rattle.piece_run.proofs.EndFalls.{items_fall}
+use Rattle.piece_run.proofs.Numbering.{pieces_are_numbered}
+use Rattle.piece_run.proofs.WholeRuns.{lists_chosen}
+
+below : {X : Type 0} (xs : List X) (p : ℕ) (x : X) → slice_get xs p ≡ Some x → p < length xs
+below [] p x e = absurd cc
+below (y ∷ ys) zero x e = omega arith
+below (y ∷ ys) (suc p) x e = let h = below ys p x e in omega (arith, h)
+
+-- outputs that are good so are good in another way
+good_as : {O : Type 0} (tells : O → Option ℕ) (good other : ℕ → ℕ → O → Type 0) (total full : ℕ) (done : List (Done O)) (events : List CoreEvent)
+    → ((p limit : ℕ) (out : O) → p < total → good p limit out → other p limit out) → IsWhole tells good total full done events → IsWhole tells other total full done events
+good_as tells good other total full done events h w = record {
+  count = w.count;
+  each = λ p d e.
+      let at = w.each p d e in
+      let low : p < total = omega (arith, below done p d e, w.count) in
+      record { here = at.here; is_good = h p d.limit d.out low at.is_good; taken = at.taken; told = at.told };
+  ends = w.ends;
+}
+
+stage_falls : {F : Type 0} (s : DrivenStage F) → Falls s.reading (last_step s) nothing_came follow (stage_of s)
+stage_falls s =
+    let up : s.reading ≤ last_step s = omega arith in
+    driver_falls s.reading (s.reading + 1) (last_step s) nothing_came follow (placed_item (line_read s.place)) (items_stage s) (items_fall s) (omega arith) up
+
+may_begin : (at : Option (Placed Slot)) (n : ℕ) → MayBegin at n n
+may_begin None n = tt
+may_begin (Some at) n = refl
+
+of_told : (o : Option (List Line)) (found lines : List Line) → o ≡ Some lines → IfSome o (λ ls. found ≡ ls) → found ≡ lines
+of_told None found lines e h = absurd cc
+of_told (Some ls) found lines e h = let same : ls ≡ lines = cc in h ∙ same
+
+pub runs_are_whole : {I : Type 0} (F : Type 0) (stands : I → List Datum → Type 0) → RunsAreWhole F stands
+runs_are_whole {I = I} F stands = record {
+  some = λ s told total pieces w.
+      let full = last_step s + 1 in
+      let ds = pieces.done.items in
+      let events = pieces.events.items in
+      let of : List Line → ℕ → ℕ → Counted (CameOut I) → Type 0 = IsOfLines stands s in
+      let kept = good_as told_step (IsKeyedPiece stands s told) (λ p limit out. (ls : List Line) × of ls p limit out) total full ds events
+      (λ p limit out low k. (k.of_piece.lines, k.of_piece.outcome)) w in
+      let chosen = lists_chosen [] told_step of total full ds events kept in
+      let lists : ℕ → List (ℕ × Line) = λ p. numbered_lines (first_line s.before.now p) (chosen.0 p) in
+      let o : OnPieces Came Seen = record { first = s.reading; last = last_step s; stage = stage_of s; total = total; lists = lists } in (
+        o,
+        record {
+          falls = stage_falls s;
+          outputs = good_as told_step (λ p limit out. of (chosen.0 p) p limit out) (λ p limit out. IsOutcomeOf (CameIs stands) s.reading (last_step s) (stage_of s) (lists p) limit out) total full ds events
+              (λ p limit out low k. k (first_line s.before.now p) (may_begin s.binding.at.now (first_line s.before.now p))) chosen.1;
+        },
+      );
+  told = λ s told total lines pieces are w. record {
+    falls = stage_falls s;
+    outputs = good_as told_step (IsKeyedPiece stands s told) (λ p limit out. IsOutcomeOf (CameIs stands) s.reading (last_step s) (stage_of s) (numbered_piece lines p) limit out)
+        total (last_step s + 1) pieces.done.items pieces.events.items
+        (λ p limit out low k.
+        let same = of_told (told_piece s.cut.now told p) k.of_piece.lines (lines p) (are.pieces p low) k.of_piece.are in
+        subst (λ (ls : List Line). IsOfLines stands s ls p limit out) same k.of_piece.outcome (lines_before lines p + 1) (are.numbers p low)) w;
+  };
+  runs = λ s source total lines. ap (stage_of s).run (pieces_are_numbered lines total);
+}

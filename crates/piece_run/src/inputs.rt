@@ -1,0 +1,11 @@
+//! Laws of the outputs that workers give for the pieces of an input.
+
+ghost use Rattle.piece_run.specs.Inputs.{RunsAreWhole};
+
+use crate::came::ItemsKept;
+
+/// What workers give for all pieces of an input can be gathered; and where the files tell their
+/// bytes, what is gathered is what the stage makes of the lines of the input.
+pub fn runs_are_whole<F, I: ItemsKept>()
+    ensures { RunsAreWhole F I.stands }
+{}
