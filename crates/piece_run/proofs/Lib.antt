@@ -12,3 +12,9 @@ mod EndFalls
 mod Sums
 mod ToldBelow
 mod Texts
+mod Within
+pub mod WholeRuns
+pub mod LinesMeant
+pub mod Numbering
+pub mod Frames
+pub mod InputRuns

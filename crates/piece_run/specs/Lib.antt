@@ -10,3 +10,6 @@ pub mod HaveKeys
 pub mod Driven
 pub mod Seats
 pub mod Texts
+pub mod Gathering
+pub mod Meanings
+pub mod Inputs
