@@ -18,3 +18,5 @@ pub mod LinesMeant
 pub mod Numbering
 pub mod Frames
 pub mod InputRuns
+mod SharedClauses
+mod Crossing

@@ -85,6 +85,13 @@ module _ {A K F : Type 0} where
       sym (ap (λ (q : Result (List (K × A)) (Met K F)). q >>= λ G. in_front G (keyed_from step keys clash (keys_of G) (n + 1) xs)) found)
       ∙ sym (ordered_next step n keys clash front x xs) ∙ h
 
+  -- one more tuple, where it faults
+  pub next_met : (step n : ℕ) (keys : A → Result K F) (clash : List K → K → Option F) (front : List (K × A)) (x : A) (xs : List A) (all : Result (List (K × A)) (Met K F)) (m : Met K F)
+      → in_front front (keyed_from step keys clash (keys_of front) n (x ∷ xs)) ≡ all → in_front front (keyed_from step keys clash (keys_of front) n (x ∷ [])) ≡ Err m → all ≡ Err m
+  next_met step n keys clash front x xs all m h found =
+      sym h ∙ ordered_next step n keys clash front x xs
+      ∙ ap (λ (q : Result (List (K × A)) (Met K F)). q >>= λ G. in_front G (keyed_from step keys clash (keys_of G) (n + 1) xs)) found
+
   -- ---- an order as a step
 
   first_leaves : (step : ℕ) (p : K × A) (q : Result (List (K × A)) (Met K F)) (e : Met K F) → ((d : Met K F) → q ≡ Err d → d.step ≡ step) → with_first p q ≡ Err e → e.step ≡ step
@@ -127,6 +134,22 @@ ordered_turn inner keys env at position its left x all ordered more k e h value 
     next_kept at (position + 1) (tuple_keys inner keys env) (order_clash keys) (keyed_list ordered.entries.items) (keyed_list more.entries.items) (frame_tuple x) (frame_tuples left) all
     (subst (λ (l : List Frame). in_front (keyed_list ordered.entries.items) (keyed_from at (tuple_keys inner keys env) (order_clash keys) (keys_of (keyed_list ordered.entries.items)) (position + 1) (frame_tuples l)) ≡ all) e h)
     (subst (OrderingIs r) is value)
+
+pub ordered_met : (inner : Inner) (keys : PlainOrderKeys Slot Target SeqType) (env : Environment) (at position : ℕ) (its left : List Frame) (x : Frame) (all : Result (List Keyed) (Met KeyList Fault)) (ordered : OrderedTuples) (k : Ordering) (m : MetFault) (seen : Seen) → its ≡ x ∷ left
+    → in_front (keyed_list ordered.entries.items) (keyed_from at (tuple_keys inner keys env) (order_clash keys) (keys_of (keyed_list ordered.entries.items)) (position + 1) (frame_tuples its)) ≡ all
+    → OrderingIs (in_front (keyed_list ordered.entries.items) (keyed_from at (tuple_keys inner keys env) (order_clash keys) (keys_of (keyed_list ordered.entries.items)) (position + 1) (frame_tuple x ∷ []))) k → k ≡ found.Met m seen
+    → FaultIs all m seen
+ordered_met inner keys env at position its left x all ordered k m seen e h value is =
+    let r = in_front (keyed_list ordered.entries.items) (keyed_from at (tuple_keys inner keys env) (order_clash keys) (keys_of (keyed_list ordered.entries.items)) (position + 1) (frame_tuple x ∷ [])) in
+    let f : FaultIs r m seen = subst (OrderingIs r) is value in
+    record {
+      fault = f.fault;
+      is = next_met at (position + 1) (tuple_keys inner keys env) (order_clash keys) (keyed_list ordered.entries.items) (frame_tuple x) (frame_tuples left) all f.fault
+          (subst (λ (l : List Frame). in_front (keyed_list ordered.entries.items) (keyed_from at (tuple_keys inner keys env) (order_clash keys) (keys_of (keyed_list ordered.entries.items)) (position + 1) (frame_tuples l)) ≡ all) e h)
+          f.is;
+      met = f.met;
+      keys = f.keys;
+    }
 
 -- ---- what the code tells of an order
 

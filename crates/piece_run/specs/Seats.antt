@@ -1,5 +1,5 @@
 -- What a worker holds, and what a stage makes of a piece that it reads.
-use Rattle.std.specs.Prelude.{◌≡◌, ℕ, ◌+◌, List, sum_by, get_or, Option, IfSome}
+use Rattle.std.specs.Prelude.{map, ◌≡◌, ℕ, ◌+◌, List, sum_by, get_or, Option, IfSome}
 use Rattle.item_tree.specs.Datum.{Datum}
 use Rattle.item_reader.specs.Lines.{Line}
 use Rattle.line_pieces.specs.Pieces.{told_piece}
@@ -10,6 +10,9 @@ use Rattle.piece_run.specs.Outcomes.{CameIs, IsOutcomeOf}
 use Rattle.piece_run.specs.Staged.{EndKeyedBy, last_step}
 use Rattle.piece_run.specs.declared.came.CameOut.{CameOut}
 use Rattle.piece_run.specs.declared.stage.DrivenStage.{DrivenStage}
+use Rattle.piece_run.specs.declared.job.DrivenJob.{DrivenJob}
+use Rattle.piece_run.specs.declared.seat.Seat.{Seat}
+use Rattle.line_pieces.specs.Cuts.{HaveLengths}
 
 -- the faults of all files
 abbrev pub all_faults : {S : Type 0} → (S → ℕ) → List S → ℕ
@@ -40,3 +43,9 @@ pub record IsKeyedPiece {F I : Type 0} (stands : I → List Datum → Type 0) (s
     (told : List (Option (List ℕ))) (piece limit : ℕ) (out : Counted (CameOut I)) : Type 0 where
   pub of_piece : IsOfPiece stands s told piece limit out
   pub keys : EndKeyedBy s.end out.outcome
+
+-- a worker's files are those of the job
+abbrev pub HasFiles : {F S I : Type 0} → (S → Option (List ℕ)) → DrivenJob F S I → Seat S → Type 0
+HasFiles held j s =
+    HaveLengths j.stage.cut.now.lengths (map held s.files.items)
+    × (map held s.files.items ≡ map held j.files.now)

@@ -12,6 +12,7 @@ ghost use Rattle.piece_run.specs.Staged.{EndKeyedBy, last_step};
 use crate::came::{CameOut, ItemsKept};
 use crate::seat::Seat;
 use crate::stage::DrivenStage;
+use item_reader::Reader;
 use item_tree::NoMemory;
 use outside::{Failed, InputFile};
 use piece_board::JobFault;
@@ -64,7 +65,8 @@ impl<
     {
         seat.read_piece(self.cut, piece)?;
         let first = self.first_of(piece)?;
-        let out = self.of_lines(&mut seat.items, seat.pieces.lines(), first, limit)?;
+        let mut reader = Reader::new(self.evaluator.alloc);
+        let out = self.of_lines(&mut reader, seat.pieces.lines(), first, limit)?;
         Ok(out)
     }
 }

@@ -7,7 +7,6 @@ ghost use Rattle.line_pieces.specs.Pieces.{told_piece};
 ghost use Rattle.piece_board.specs.Faults.{IsJob};
 ghost use Rattle.piece_run.specs.Seats.{all_faults};
 
-use item_reader::Reader;
 use line_pieces::{Cut, PieceFault, PieceReader};
 use outside::{Failed, InputFile};
 use piece_board::JobFault;
@@ -19,7 +18,6 @@ pub struct Seat<S> {
     /// The files.
     pub files: Vec<S>,
     pub(crate) pieces: PieceReader,
-    pub(crate) items: Reader,
 }
 
 impl<S> Seat<S> {
@@ -30,7 +28,6 @@ impl<S> Seat<S> {
         Seat {
             files,
             pieces: PieceReader::new(alloc),
-            items: Reader::new(alloc),
         }
     }
 }

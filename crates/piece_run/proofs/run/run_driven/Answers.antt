@@ -1,0 +1,14 @@
+use denote.Param.Send.{sendable}
+use mir.Syntax.{named}
+use Rattle.piece_run.proofs.Crossing.{counted_sent, job_seen, seat_sent}
+use Rattle.piece_run.proofs.run.run_driven.Goals as goal
+
+pub run_pieces-requires-send-J-Seat : goal.run_pieces-requires-send-J-Seat
+run_pieces-requires-send-J-Seat g c κs within = search (sendable, seat_sent) depth 20
+
+pub run_pieces-requires-send-J-Out : goal.run_pieces-requires-send-J-Out
+run_pieces-requires-send-J-Out g c κs within = search (sendable, counted_sent) depth 20
+
+pub run_pieces-requires-sync-J : goal.run_pieces-requires-sync-J
+run_pieces-requires-sync-J g c κs within =
+    record { shared = (job_seen (record { mir = named 0; lft = _ }) _ _ _ c.type_bounds.sync-F c.type_bounds.sync-S c.type_bounds.sync-I).shared }
