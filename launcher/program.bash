@@ -107,7 +107,7 @@ unpack() {
   fi
 }
 
-# Unpacks the release where that is not done yet. It is unpacked under a name of its own and then
+# Unpacks the release where that is not done yet. Each file is made under a name of its own and then
 # renamed, since another launcher may do the same. A checkout that can't be written to is left as it
 # is, and the program goes with this run.
 take_release() {
@@ -115,8 +115,9 @@ take_release() {
   program=$kept
   ! is_whole "$kept" "$release/made" || return 0
   if new=$(mkdir -p "$cache/release" 2> /dev/null && mktemp "$cache/release/new.XXXXXX" 2> /dev/null); then
-    unpack "$new" && cp "$release/made" "${kept%/*}/made" && mv -f "$new" "$kept" && return
-    rm -f "$new"
+    unpack "$new" && cp "$release/made" "$new.made" \
+      && mv -f "$new.made" "${kept%/*}/made" && mv -f "$new" "$kept" && return
+    rm -f "$new" "$new.made"
     return 1
   fi
   make_room || return 1

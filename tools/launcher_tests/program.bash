@@ -147,14 +147,19 @@ $work/prefix/libexec/rumble/rumble_main, as installed
   expect "what is installed beside it" "share/bash-completion/completions/rumble
 share/man/man1/rumble.1" "$(cd prefix && find share -type f | LC_ALL=C sort)"
   expect "what stays when it is taken away" "" "$(make -C copies/plain uninstall PREFIX="$work/prefix" > /dev/null; find prefix -type f)"
+  # A cp that looks for the file, waits, and makes a new one: where another has made it since, it fails.
+  mkdir waiting
+  printf '#!/bin/bash\n[ ! -e "$2" ] || exec /bin/cp "$@"\nsleep 0.5\nset -C\ncat "$1" > "$2"\n' > waiting/cp
+  chmod +x waiting/cp
   cp -r fresh copies/pair
   expect "two first runs at once" $'<q>\n<q>\n<run>\n<run>' "$(
     {
-      copies/pair/rumble run q 2>&1 &
-      copies/pair/rumble run q 2>&1
+      PATH=$work/waiting:$PATH copies/pair/rumble run q 2>&1 &
+      PATH=$work/waiting:$PATH copies/pair/rumble run q 2>&1
       wait
     } | sort
   )"
+  expect "what two first runs leave" $'made\nrumble_main' "$(LC_ALL=C ls copies/pair/out/release)"
   cp -r fresh copies/shut && : > copies/shut/out
   expect "a checkout that can't be written to" $'<run>\n<query 1>' "$(copies/shut/rumble -e 1 2>&1)"
   mkdir rooms
