@@ -69,7 +69,7 @@ clause_meant : (inner : Inner) (number : ℕ) (stream : List Slot) (c : PlainCla
     → clause_value inner number stream c env ts ≡ meant (run.each_from {K = Seen} number (tuples_at inner c env 0) 1 ts)
 clause_meant inner number stream (p.for_clause variable t allowing_empty at source) env ts h = meant_tuples number (for_tuples inner variable t allowing_empty at source env) ts
 clause_meant inner number stream (p.let_clause variable t e) env ts h = meant_tuples number (let_tuples inner variable t e env) ts
-clause_meant inner number stream (p.keep_clause place test) env ts h = meant_tuples number (where_tuples inner test env) ts
+clause_meant inner number stream (p.where_clause place test) env ts h = meant_tuples number (where_tuples inner test env) ts
 clause_meant inner number stream (p.count_clause place variable) env ts h = absurd cc
 clause_meant inner number stream (p.group_clause place keys) env ts h = absurd cc
 clause_meant inner number stream (p.order_clause place stable keys) env ts h = absurd cc

@@ -29,7 +29,7 @@ pub single_is : (inner : Inner) (number : ℕ) (stream : List Slot) (c : PlainCl
 unfolding left_at each_tuple
 single_is inner number stream (p.for_clause variable t allowing_empty at source) env tuples h = refl
 single_is inner number stream (p.let_clause variable t e) env tuples h = refl
-single_is inner number stream (p.keep_clause place test) env tuples h = refl
+single_is inner number stream (p.where_clause place test) env tuples h = refl
 single_is inner number stream (p.count_clause place variable) env tuples h = refl
 single_is inner number stream (p.group_clause place keys) env tuples h = absurd h
 single_is inner number stream (p.order_clause place stable keys) env tuples h = absurd h

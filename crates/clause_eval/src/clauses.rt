@@ -187,7 +187,7 @@ impl<F: for<'s, 'a> Fn(Global, &BoundExpr, &Env<'s, 'a>) -> Result<Value<'a>, Ev
                 of,
                 value,
             } => { self.let_tuples(variable, of, value, frame, out, env) }
-            Clause::Keep { test, .. } => self.where_tuples(test, frame, out, env),
+            Clause::Where { test, .. } => self.where_tuples(test, frame, out, env),
             Clause::Count { variable, .. } => {
                 count_tuples(self.alloc, variable, position, frame, out)
             }

@@ -102,7 +102,7 @@ impl<F: for<'s, 'a> Fn(Global, &BoundExpr, &Env<'s, 'a>) -> Result<Value<'a>, Ev
                 of,
                 value,
             } => self.let_given(variable, of, value, frame, env),
-            Clause::Keep { test, .. } => self.where_given(test, frame, env),
+            Clause::Where { test, .. } => self.where_given(test, frame, env),
             Clause::For { .. } => self.many_given(clause, frame, env),
             Clause::Count { .. } => self.many_given(clause, frame, env),
             Clause::Group { .. } => self.many_given(clause, frame, env),

@@ -43,7 +43,7 @@ impl<F: for<'s, 'a> Fn(Global, &BoundExpr, &Env<'s, 'a>) -> Result<Value<'a>, Ev
             Clause::Order { keys, .. } => self.order(number, keys, frames, env),
             Clause::For { .. } => self.one_by_one(number, clause, frames, env),
             Clause::Let { .. } => self.one_by_one(number, clause, frames, env),
-            Clause::Keep { .. } => self.one_by_one(number, clause, frames, env),
+            Clause::Where { .. } => self.one_by_one(number, clause, frames, env),
             Clause::Count { .. } => self.one_by_one(number, clause, frames, env),
         }
     }

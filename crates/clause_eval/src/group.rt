@@ -255,7 +255,7 @@ impl<F: for<'s, 'a> Fn(Global, &BoundExpr, &Env<'s, 'a>) -> Result<Value<'a>, Ev
         let width = env.frame.len();
         grouped(
             self.alloc,
-            env.library.seed(),
+            env.seed,
             keys.len(),
             width,
             joined.as_slice(),

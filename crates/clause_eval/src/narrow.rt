@@ -31,7 +31,7 @@ fn is_narrow(clause: &BoundClause) -> bool
     match clause {
         Clause::For { .. } => true,
         Clause::Let { .. } => true,
-        Clause::Keep { .. } => true,
+        Clause::Where { .. } => true,
         Clause::Count { .. } => false,
         Clause::Group { .. } => false,
         Clause::Order { .. } => false,

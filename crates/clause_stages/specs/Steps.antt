@@ -27,7 +27,7 @@ abbrev pub tuples_at : Inner → PlainClause Slot Target SeqType → Environment
 tuples_at inner (p.for_clause variable t allowing_empty at source) env n tuple =
     for_tuples inner variable t allowing_empty at source env tuple
 tuples_at inner (p.let_clause variable t e) env n tuple = let_tuples inner variable t e env tuple
-tuples_at inner (p.keep_clause place test) env n tuple = where_tuples inner test env tuple
+tuples_at inner (p.where_clause place test) env n tuple = where_tuples inner test env tuple
 tuples_at inner (p.count_clause place variable) env n tuple = count_tuples variable n tuple
 tuples_at inner (p.group_clause place keys) env n tuple = Ok []
 tuples_at inner (p.order_clause place stable keys) env n tuple = Ok []

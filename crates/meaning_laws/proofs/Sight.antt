@@ -97,7 +97,7 @@ module _ (globals : ℕ) (functions : List ℕ) where
   pub clause-outside : (s : Scope) (c : PlainClause Slot Target SeqType) (env other : Environment) → Outside s env other → Outside (after_clause s c) env other
   clause-outside s (p.for_clause variable t allowing_empty position source) env other a = any-outside (with_slot s variable.name) position env other (slot-outside s variable.name env other a)
   clause-outside s (p.let_clause variable t value) env other a = slot-outside s variable.name env other a
-  clause-outside s (p.keep_clause place test) env other a = a
+  clause-outside s (p.where_clause place test) env other a = a
   clause-outside s (p.group_clause place keys) env other a = keys-outside s keys env other a
   clause-outside s (p.order_clause place stable keys) env other a = a
   clause-outside s (p.count_clause place variable) env other a = slot-outside s variable.name env other a

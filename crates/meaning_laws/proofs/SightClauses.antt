@@ -234,7 +234,7 @@ module _ (globals : ℕ) (functions : List ℕ) (inner inner' : Inner) (looks : 
   clause-match s env other out wide number stream (p.let_clause variable type e) w ts us h =
       let ws = and_parts (may_bind s variable.name) (is_bound s e) w in
       each_tuple-match s env other out (with_slot s variable.name) number (λ n. let_tuples inner variable type e env) (λ n. let_tuples inner' variable type e other) (λ n t u a. let-match s env other out variable type e ws.1 t u a) ts us h
-  clause-match s env other out wide number stream (p.keep_clause place test) w ts us h =
+  clause-match s env other out wide number stream (p.where_clause place test) w ts us h =
       each_tuple-match s env other out s number (λ n. where_tuples inner test env) (λ n. where_tuples inner' test other) (λ n t u a. where-match s env other out test w t u a) ts us h
   clause-match s env other out wide number stream (p.count_clause place variable) w ts us h =
       each_tuple-match s env other out (with_slot s variable.name) number (count_tuples variable) (count_tuples variable) (count-match s env other out variable) ts us h

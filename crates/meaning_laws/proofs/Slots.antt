@@ -49,7 +49,7 @@ module _ (width : ℕ) where
   after_clause-below : (s : Scope) (c : PlainClause Slot Target SeqType) → s.locals ≡ below width → (after_clause s c).locals ≡ below width
   after_clause-below s (p.for_clause variable t allowing_empty position source) b = with_any-below (with_slot s variable.name) position (with_slot-below s variable.name b)
   after_clause-below s (p.let_clause variable t value) b = with_slot-below s variable.name b
-  after_clause-below s (p.keep_clause place test) b = b
+  after_clause-below s (p.where_clause place test) b = b
   after_clause-below s (p.group_clause place keys) b = after_keys-below s keys b
   after_clause-below s (p.order_clause place stable keys) b = b
   after_clause-below s (p.count_clause place variable) b = with_slot-below s variable.name b
@@ -269,7 +269,7 @@ module _ (width : ℕ) where
     clause-small : (s : Scope) → s.locals ≡ below width → (x : PlainClause Slot Target SeqType) → clause_bound s x ≡ true → Within Small (clause_subtrees x)
     clause-small s b (p.for_clause variable t allowing_empty position source) h = tree-small s b source (and_parts (may_bind s variable.name && may_bind_any s position) (is_bound s source) h).1
     clause-small s b (p.let_clause variable t value) h = tree-small s b value (and_parts (may_bind s variable.name) (is_bound s value) h).1
-    clause-small s b (p.keep_clause place test) h = tree-small s b test h
+    clause-small s b (p.where_clause place test) h = tree-small s b test h
     clause-small s b (p.group_clause place keys) h = group_vars-small s b keys h
     clause-small s b (p.order_clause place stable keys) h = order_keys-small s b keys h
     clause-small s b (p.count_clause place variable) h = tt

@@ -57,7 +57,7 @@ abbrev let_one : ℕ → PlainClause Slot Target SeqType
 let_one place = p.let_clause (variable place) None (one 0)
 
 abbrev where_one : ℕ → PlainClause Slot Target SeqType
-where_one place = p.keep_clause place (one 0)
+where_one place = p.where_clause place (one 0)
 
 abbrev group : ℕ → PlainClause Slot Target SeqType
 group place = p.group_clause place p.no_group_vars

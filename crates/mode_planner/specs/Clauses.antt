@@ -25,7 +25,7 @@ stage first last end = record { first = first; last = last; end = end }
 abbrev pub clause_label : PlainClause Slot Target SeqType → Label
 clause_label (p.for_clause variable t allowing_empty at source) = label.For
 clause_label (p.let_clause variable t value) = label.Let
-clause_label (p.keep_clause place test) = label.Where
+clause_label (p.where_clause place test) = label.Where
 clause_label (p.group_clause place keys) = label.Group
 clause_label (p.order_clause place stable keys) = label.Order
 clause_label (p.count_clause place variable) = label.Count
@@ -34,7 +34,7 @@ clause_label (p.count_clause place variable) = label.Count
 abbrev pub clause_place : PlainClause Slot Target SeqType → ℕ
 clause_place (p.for_clause variable t allowing_empty at source) = variable.place
 clause_place (p.let_clause variable t value) = variable.place
-clause_place (p.keep_clause place test) = place
+clause_place (p.where_clause place test) = place
 clause_place (p.group_clause place keys) = place
 clause_place (p.order_clause place stable keys) = place
 clause_place (p.count_clause place variable) = place
@@ -44,7 +44,7 @@ clause_place (p.count_clause place variable) = place
 abbrev pub clause_mode : PlainClause Slot Target SeqType → Mode
 clause_mode (p.for_clause variable t allowing_empty at source) = Partitioned
 clause_mode (p.let_clause variable t value) = Partitioned
-clause_mode (p.keep_clause place test) = Partitioned
+clause_mode (p.where_clause place test) = Partitioned
 clause_mode (p.group_clause place keys) = Gathered
 clause_mode (p.order_clause place stable keys) = Gathered
 clause_mode (p.count_clause place variable) = Gathered

@@ -19,7 +19,7 @@ fn clause_line(clause: &BoundClause) -> Line
     let (place, label, mode) = match clause {
         Clause::For { variable, .. } => (variable.place, Label::For, Mode::Partitioned),
         Clause::Let { variable, .. } => (variable.place, Label::Let, Mode::Partitioned),
-        Clause::Keep { place, .. } => (*place, Label::Where, Mode::Partitioned),
+        Clause::Where { place, .. } => (*place, Label::Where, Mode::Partitioned),
         Clause::Group { place, .. } => (*place, Label::Group, Mode::Gathered),
         Clause::Order { place, .. } => (*place, Label::Order, Mode::Gathered),
         Clause::Count { place, .. } => (*place, Label::Count, Mode::Gathered),
@@ -66,7 +66,7 @@ fn clause_end(clause: &BoundClause) -> Option<End>
         Clause::Group { .. } => Some(End::Groups),
         Clause::Order { .. } => Some(End::Orders),
         Clause::Count { .. } => Some(End::Numbers),
-        Clause::For { .. } | Clause::Let { .. } | Clause::Keep { .. } => None,
+        Clause::For { .. } | Clause::Let { .. } | Clause::Where { .. } => None,
     }
 }
 

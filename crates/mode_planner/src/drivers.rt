@@ -46,7 +46,7 @@ fn is_let(clause: &BoundClause) -> bool
     match clause {
         Clause::Let { .. } => true,
         Clause::For { .. }
-        | Clause::Keep { .. }
+        | Clause::Where { .. }
         | Clause::Group { .. }
         | Clause::Order { .. }
         | Clause::Count { .. } => false,
@@ -80,7 +80,7 @@ fn clause_driver<'q>(lets: u32, clause: &'q BoundClause) -> Option<Driver<'q>>
             }
         }
         Clause::Let { .. }
-        | Clause::Keep { .. }
+        | Clause::Where { .. }
         | Clause::Group { .. }
         | Clause::Order { .. }
         | Clause::Count { .. } => None,

@@ -2,7 +2,7 @@
 use Rattle.std.specs.Prelude.{◌≡◌, ◌<◌, ◌≤◌, ◌⊎◌, ◌+◌, ◌-◌, ◌^◌, ℕ, List, Option, None, Some, Result, Ok, Err}
 use Rattle.item_tree.specs.declared.code.Code.{Code}
 use Rattle.item_tree.specs.declared.code.Code.TheVariants.{XPST0003, PJST0005, PJST0006, PJST0007, PJST0008, PJST0009}
-use Rattle.outside.specs.Counted.{Rose, Rises, RoseByOne}
+use Rattle.outside.specs.Counted.{Rose, RoseByOne}
 use Rattle.outside.specs.Opens.{InputCounts}
 use Rattle.line_pieces.specs.Faults as piece
 use Rattle.line_pieces.specs.declared.fault.PieceFault.{PieceFault}
@@ -37,9 +37,9 @@ OpenedJust n before after =
 
 -- ---- of a read of a whole file, which may not be there
 
--- the misses rise where there was no such file, and else stay
+-- one more file was missing where there was no such file, and else none
 abbrev pub MissedBy : {T : Type 0} → Result (Option T) PieceFault → ℕ → ℕ → Type 0
-MissedBy (Ok None) before after = Rises before after
+MissedBy (Ok None) before after = RoseByOne before after
 MissedBy _ before after = after ≡ before
 
 -- a file was opened where its bytes were read, and none where there was no such file
@@ -68,16 +68,16 @@ pub data OtherCause {T : Type 0} (reads : Reader T) : Code → Type 0 where
   reader : (text : List ℕ) (code : Code) (place : ℕ)
       → reads text (Err (unread.Refused code place)) → OtherCause reads code
 
--- the misses rise where a library was missing, and else stay
+-- one more file was missing where a library was, and else none
 abbrev pub MissesByCode : {T : Type 0} → Reader T → Code → ℕ → ℕ → Type 0
 MissesByCode reads code before after =
-    (OtherCause reads code × (after ≡ before)) ⊎ ((code ≡ PJST0007) × Rises before after)
+    (OtherCause reads code × (after ≡ before)) ⊎ ((code ≡ PJST0007) × RoseByOne before after)
 
--- the misses rise where a file was missing
+-- one more file was missing where the query or a library was, and else none
 abbrev pub MissesBy : {T A : Type 0} → Reader T → Result A LoadFault → ℕ → ℕ → Type 0
 MissesBy reads (Ok x) before after = after ≡ before
 MissesBy reads (Err (Refused r contents)) before after = MissesByCode reads r.code before after
-MissesBy reads (Err NoQuery) before after = Rises before after
+MissesBy reads (Err NoQuery) before after = RoseByOne before after
 MissesBy reads (Err ReadFault) before after = after ≡ before
 MissesBy reads (Err NoMemory) before after = Unit {0}
 

@@ -25,7 +25,8 @@ pub(crate) fn note<'q, V: Copy>(
     place: Place<V>,
 ) -> Result<(), NoMemory>
     ensures ok { OnOk result ((q : List ℕ) → stack_at stacks.new q
-        ≡ cond (bytes_eq name.now q) (stack_at stacks.old q ++ place ∷ []) (stack_at stacks.old q)) }
+        ≡ cond (bytes_eq name.now q) (stack_at stacks.old q ++ place ∷ [])
+        (stack_at stacks.old q)) }
     ensures err { OnErr result ((q : List ℕ) → stack_at stacks.new q ≡ stack_at stacks.old q) }
 {
     match stacks.get_mut(name) {
@@ -42,7 +43,8 @@ pub(crate) fn note<'q, V: Copy>(
 /// Lets the last place of a name go.
 pub(crate) fn forget<'q, V: Copy>(stacks: &mut BTreeMap<&'q str, Vec<Place<V>>>, name: &'q str)
     ensures { (q : List ℕ) → stack_at stacks.new q
-        ≡ cond (bytes_eq name.now q) (without_last (stack_at stacks.old q)) (stack_at stacks.old q) }
+        ≡ cond (bytes_eq name.now q) (without_last (stack_at stacks.old q))
+        (stack_at stacks.old q) }
 {
     if let Some(stack) = stacks.get_mut(name) {
         stack.pop();

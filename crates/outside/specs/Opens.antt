@@ -12,9 +12,9 @@ pub record InputCounts : Type 0 where
   pub opened : ℕ
   pub closed : ℕ
 
--- misses rise exactly where the file is missing
+-- one more file was missing exactly where the answer says so
 abbrev pub MissesBy : {F : Type 0} → Result F OpenFault → ℕ → ℕ → Type 0
-MissesBy (Err Missing) before after = Rises before after
+MissesBy (Err Missing) before after = RoseByOne before after
 MissesBy _ before after = after ≡ before
 
 -- faults rise exactly where the open fails

@@ -40,7 +40,8 @@ impl Model for MemOutputs {
     } };
 
     ghost invariant = { λ s.
-        KeepsSinks s.spare.items s.room s.pending (length s.done.items) (vec_capacity s.done) s.count };
+        KeepsSinks s.spare.items s.room s.pending (length s.done.items) (vec_capacity s.done)
+        s.count };
 }
 
 // So many empty sinks of this room.

@@ -194,8 +194,8 @@ pub fn gather<W: Kept>(
     done: Vec<Done<Counted<W>>>,
 ) -> Result<Gathered<W>, NoMemory>
     requires empty { W.stands empty nothing_came }
-    requires known { (ds : List (plain.PieceDone Came Seen Fault)) × (r : Result Came (Met Seen Fault))
-        × AllDone W.stands done.items ds
+    requires known { (ds : List (plain.PieceDone Came Seen Fault))
+        × (r : Result Came (Met Seen Fault)) × AllDone W.stands done.items ds
         × ((plain.gathered follow (plain.nothing_yet nothing_came) ds).what ≡ plain.known r) }
     ensures { IfOk result (λ r. (ds : List (plain.PieceDone Came Seen Fault))
         → AllDone W.stands done.items ds → GatheredIs W.stands r

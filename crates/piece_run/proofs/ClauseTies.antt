@@ -35,7 +35,7 @@ clause_remade : {B W K J : Type 0} (view : B → W) (number : ℕ) (inner : Inne
     → IsRemade view s t → IsRemade view (narrow number (one.tuples_at inner c env 0) s) (narrow number (tuples_at inner c env 0) t)
 clause_remade view number inner (p.for_clause variable t allowing_empty at source) env s r h = narrow_remade _ _ view number (for_tuples inner variable t allowing_empty at source env) s r h
 clause_remade view number inner (p.let_clause variable t e) env s r h = narrow_remade _ _ view number (let_tuples inner variable t e env) s r h
-clause_remade view number inner (p.keep_clause place test) env s r h = narrow_remade _ _ view number (where_tuples inner test env) s r h
+clause_remade view number inner (p.where_clause place test) env s r h = narrow_remade _ _ view number (where_tuples inner test env) s r h
 clause_remade view number inner (p.count_clause place variable) env s r h = narrow_remade _ _ view number (count_tuples variable 0) s r h
 clause_remade view number inner (p.group_clause place keys) env s r h = narrow_remade _ _ view number (λ tuple. Ok []) s r h
 clause_remade view number inner (p.order_clause place stable keys) env s r h = narrow_remade _ _ view number (λ tuple. Ok []) s r h

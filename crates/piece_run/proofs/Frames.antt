@@ -60,7 +60,7 @@ module _ (inner : Inner) (env : Environment) (frame : Tuple) (same : length fram
   unfolding for_tuples let_tuples where_tuples
   clause_same number stream (p.for_clause variable t allowing_empty at source) tuples = refl
   clause_same number stream (p.let_clause variable t e) tuples = refl
-  clause_same number stream (p.keep_clause place test) tuples = refl
+  clause_same number stream (p.where_clause place test) tuples = refl
   clause_same number stream (p.count_clause place variable) tuples = refl
   clause_same number stream (p.group_clause place keys) tuples = groups_same number stream keys tuples
   clause_same number stream (p.order_clause place stable keys) tuples = orders_same number keys tuples

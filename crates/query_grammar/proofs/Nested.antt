@@ -62,9 +62,9 @@ module _ (w : Ground Word Kind Part Tree language sets) (u : Higher tree_depth w
   unfolding g.first_clause is
   first_clause-within r = alt_counts (of_kind (is k.For)) (for_clause-within r) (let_clause-within r)
 
-  keep_clause-within : w.mode.room ≡ true → Counts u.within clause_depth (g.keep_clause w.mode w.parts).read (g.keep_clause (above u.wider) u.parts).read never
-  unfolding g.keep_clause is
-  keep_clause-within r = mapped_counts clause_depth n.keep_clause (λ x. omega arith) (from_counts k.Where (u.counts r i.Single))
+  where_clause-within : w.mode.room ≡ true → Counts u.within clause_depth (g.where_clause w.mode w.parts).read (g.where_clause (above u.wider) u.parts).read never
+  unfolding g.where_clause is
+  where_clause-within r = mapped_counts clause_depth n.where_clause (λ x. omega arith) (from_counts k.Where (u.counts r i.Single))
 
   group_value-within : w.mode.room ≡ true → Counts u.within (of_any tree_depth) (g.group_value w.mode w.parts).read (g.group_value (above u.wider) u.parts).read never
   unfolding g.group_value is
@@ -112,7 +112,7 @@ module _ (w : Ground Word Kind Part Tree language sets) (u : Higher tree_depth w
 
   one_clause-within : w.mode.room ≡ true → Counts u.within clause_depth (g.one_clause w.mode w.parts).read (g.one_clause (above u.wider) u.parts).read never
   unfolding g.one_clause is
-  one_clause-within r = alt_counts (of_kind (is k.Where)) (keep_clause-within r) (alt_counts (of_kind (is k.Group)) (group_clause-within r) (alt_counts (of_kind order_clause_first) (order_clause-within r) count_clause-within))
+  one_clause-within r = alt_counts (of_kind (is k.Where)) (where_clause-within r) (alt_counts (of_kind (is k.Group)) (group_clause-within r) (alt_counts (of_kind order_clause_first) (order_clause-within r) count_clause-within))
 
   clause-within : w.mode.room ≡ true → Counts u.within (greatest clause_depth) (g.clause w.mode w.parts).read (g.clause (above u.wider) u.parts).read never
   unfolding g.clause is

@@ -1571,9 +1571,9 @@ module _ (w : Ground Word Kind Part Tree language sets) where
   unfolding g.first_clause is
   first_clause-inside r = named _ _ (alt_at (for_clause-inside r) (let_clause-inside r) refl) refl
 
-  pub keep_clause-inside : w.mode.room ≡ true → LawInside w g.keep_clause (λ m. is k.Where) (λ m. for_var_ext m) false
-  unfolding g.keep_clause is
-  keep_clause-inside r = named _ _ (mapped_at _ (mapped_at _ (seq_at (one_at (λ wide. is k.Where)) (w.laws r i.Single) refl))) refl
+  pub where_clause-inside : w.mode.room ≡ true → LawInside w g.where_clause (λ m. is k.Where) (λ m. for_var_ext m) false
+  unfolding g.where_clause is
+  where_clause-inside r = named _ _ (mapped_at _ (mapped_at _ (seq_at (one_at (λ wide. is k.Where)) (w.laws r i.Single) refl))) refl
 
   pub group_value-inside : w.mode.room ≡ true → LawInside w g.group_value (λ m. is k.Assign) (λ m. group_value_ext m) true
   unfolding g.group_value is
@@ -1621,7 +1621,7 @@ module _ (w : Ground Word Kind Part Tree language sets) where
 
   pub one_clause-inside : w.mode.room ≡ true → LawInside w g.one_clause (λ m. one_clause_firsts_3 m) (λ m. one_clause_ext m) false
   unfolding g.one_clause is
-  one_clause-inside r = named _ _ (alt_at (keep_clause-inside r) (named (λ m. one_clause_firsts_2 m) (λ m. one_clause_ext m) (alt_at (group_clause-inside r) (named (λ m. one_clause_firsts m) (λ m. order_list_ext m) (alt_at (order_clause-inside r) count_clause-inside refl) refl) refl) refl) refl) refl
+  one_clause-inside r = named _ _ (alt_at (where_clause-inside r) (named (λ m. one_clause_firsts_2 m) (λ m. one_clause_ext m) (alt_at (group_clause-inside r) (named (λ m. one_clause_firsts m) (λ m. order_list_ext m) (alt_at (order_clause-inside r) count_clause-inside refl) refl) refl) refl) refl) refl
 
   pub clause-inside : w.mode.room ≡ true → LawInside w g.clause (λ m. clause_first) (λ m. one_clause_ext m) false
   unfolding g.clause is

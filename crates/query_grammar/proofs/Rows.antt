@@ -127,7 +127,7 @@ pub record Comparisons : Type 0 where
   pub pairs_ge : Compares k.AtLeast op.PairsGe
 
 comparisons_read : Comparisons
-unfolding read_many read_times inside is g.variable g.parens g.times g.item_type g.empty_parens g.empty_rest g.empty_type g.seq_type g.single_type g.as_type g.literal g.in_parens g.in_braces g.content g.paren g.merge g.array g.name_key g.computed_key g.pair_key g.pair g.pair_list g.pairs g.object g.argument g.argument_list g.some_arguments g.arguments g.arity g.call g.inline_function g.primary g.members g.member g.filter g.bracket_step g.plain_key g.computed_lookup g.field_step g.call_step g.step g.steps g.postfix g.mapped_operand g.mapped_operands g.map_level g.sign_mark g.sign_marks g.sign g.cast_type g.cast g.castable_type g.castable g.treat_type g.treat g.instance_type g.instance g.factor g.factors g.product g.term g.terms g.sum g.range_end g.range g.concat_operand g.concat_operands g.concat g.compared g.comparison g.compare g.not_level g.and_operand g.and_operands g.and_level g.or_operand g.or_operands g.or_level g.allowing g.at_variable g.for_var g.window g.for_vars g.for_clause g.let_var g.let_vars g.let_clause g.first_clause g.keep_clause g.group_value g.group_var g.group_vars g.group_clause g.empty_order g.direction g.order_key g.order_list g.order_keys g.order_clause g.count_clause g.one_clause g.clause g.returned g.clauses g.flwor g.bind g.binds g.quant g.case_test g.case_tests g.case g.cases g.switch g.seq_types g.case_variable g.type_case g.default_variable g.type_default g.type_cases g.typeswitch g.if g.catch_names g.catch_codes g.catch g.catches g.try g.single g.comma_operand g.comma_operands g.expr g.param g.variable_declaration g.param_list g.some_params g.params g.function_body g.function_declaration g.declaration g.declarations g.module_part
+unfolding read_many read_times inside is g.variable g.parens g.times g.item_type g.empty_parens g.empty_rest g.empty_type g.seq_type g.single_type g.as_type g.literal g.in_parens g.in_braces g.content g.paren g.merge g.array g.name_key g.computed_key g.pair_key g.pair g.pair_list g.pairs g.object g.argument g.argument_list g.some_arguments g.arguments g.arity g.call g.inline_function g.primary g.members g.member g.filter g.bracket_step g.plain_key g.computed_lookup g.field_step g.call_step g.step g.steps g.postfix g.mapped_operand g.mapped_operands g.map_level g.sign_mark g.sign_marks g.sign g.cast_type g.cast g.castable_type g.castable g.treat_type g.treat g.instance_type g.instance g.factor g.factors g.product g.term g.terms g.sum g.range_end g.range g.concat_operand g.concat_operands g.concat g.compared g.comparison g.compare g.not_level g.and_operand g.and_operands g.and_level g.or_operand g.or_operands g.or_level g.allowing g.at_variable g.for_var g.window g.for_vars g.for_clause g.let_var g.let_vars g.let_clause g.first_clause g.where_clause g.group_value g.group_var g.group_vars g.group_clause g.empty_order g.direction g.order_key g.order_list g.order_keys g.order_clause g.count_clause g.one_clause g.clause g.returned g.clauses g.flwor g.bind g.binds g.quant g.case_test g.case_tests g.case g.cases g.switch g.seq_types g.case_variable g.type_case g.default_variable g.type_default g.type_cases g.typeswitch g.if g.catch_names g.catch_codes g.catch g.catches g.try g.single g.comma_operand g.comma_operands g.expr g.param g.variable_declaration g.param_list g.some_params g.params g.function_body g.function_declaration g.declaration g.declarations g.module_part
 comparisons_read = record { value_eq = refl; value_ne = refl; value_lt = refl; value_le = refl; value_gt = refl; value_ge = refl; pairs_eq = refl; pairs_ne = refl; pairs_lt = refl; pairs_le = refl; pairs_gt = refl; pairs_ge = refl }
 
 -- `or` binds weaker than `and`, and that weaker than `not`
@@ -146,7 +146,7 @@ pub record Logic : Type 0 where
       (node 0 (p.comma_form (num 0 1) (operands (p.operand_node 1 (num 2 2) ∷ p.operand_node 3 (num 4 3) ∷ []))))
 
 logic_read : Logic
-unfolding read_many read_times inside is g.variable g.parens g.times g.item_type g.empty_parens g.empty_rest g.empty_type g.seq_type g.single_type g.as_type g.literal g.in_parens g.in_braces g.content g.paren g.merge g.array g.name_key g.computed_key g.pair_key g.pair g.pair_list g.pairs g.object g.argument g.argument_list g.some_arguments g.arguments g.arity g.call g.inline_function g.primary g.members g.member g.filter g.bracket_step g.plain_key g.computed_lookup g.field_step g.call_step g.step g.steps g.postfix g.mapped_operand g.mapped_operands g.map_level g.sign_mark g.sign_marks g.sign g.cast_type g.cast g.castable_type g.castable g.treat_type g.treat g.instance_type g.instance g.factor g.factors g.product g.term g.terms g.sum g.range_end g.range g.concat_operand g.concat_operands g.concat g.compared g.comparison g.compare g.not_level g.and_operand g.and_operands g.and_level g.or_operand g.or_operands g.or_level g.allowing g.at_variable g.for_var g.window g.for_vars g.for_clause g.let_var g.let_vars g.let_clause g.first_clause g.keep_clause g.group_value g.group_var g.group_vars g.group_clause g.empty_order g.direction g.order_key g.order_list g.order_keys g.order_clause g.count_clause g.one_clause g.clause g.returned g.clauses g.flwor g.bind g.binds g.quant g.case_test g.case_tests g.case g.cases g.switch g.seq_types g.case_variable g.type_case g.default_variable g.type_default g.type_cases g.typeswitch g.if g.catch_names g.catch_codes g.catch g.catches g.try g.single g.comma_operand g.comma_operands g.expr g.param g.variable_declaration g.param_list g.some_params g.params g.function_body g.function_declaration g.declaration g.declarations g.module_part
+unfolding read_many read_times inside is g.variable g.parens g.times g.item_type g.empty_parens g.empty_rest g.empty_type g.seq_type g.single_type g.as_type g.literal g.in_parens g.in_braces g.content g.paren g.merge g.array g.name_key g.computed_key g.pair_key g.pair g.pair_list g.pairs g.object g.argument g.argument_list g.some_arguments g.arguments g.arity g.call g.inline_function g.primary g.members g.member g.filter g.bracket_step g.plain_key g.computed_lookup g.field_step g.call_step g.step g.steps g.postfix g.mapped_operand g.mapped_operands g.map_level g.sign_mark g.sign_marks g.sign g.cast_type g.cast g.castable_type g.castable g.treat_type g.treat g.instance_type g.instance g.factor g.factors g.product g.term g.terms g.sum g.range_end g.range g.concat_operand g.concat_operands g.concat g.compared g.comparison g.compare g.not_level g.and_operand g.and_operands g.and_level g.or_operand g.or_operands g.or_level g.allowing g.at_variable g.for_var g.window g.for_vars g.for_clause g.let_var g.let_vars g.let_clause g.first_clause g.where_clause g.group_value g.group_var g.group_vars g.group_clause g.empty_order g.direction g.order_key g.order_list g.order_keys g.order_clause g.count_clause g.one_clause g.clause g.returned g.clauses g.flwor g.bind g.binds g.quant g.case_test g.case_tests g.case g.cases g.switch g.seq_types g.case_variable g.type_case g.default_variable g.type_default g.type_cases g.typeswitch g.if g.catch_names g.catch_codes g.catch g.catches g.try g.single g.comma_operand g.comma_operands g.expr g.param g.variable_declaration g.param_list g.some_params g.params g.function_body g.function_declaration g.declaration g.declarations g.module_part
 logic_read = record { or_and_not = refl; and_or = refl; not_of_comparison = refl; commas = refl }
 
 -- a sum holds products, a range sums, a concatenation ranges; each is a list from the left
@@ -171,7 +171,7 @@ pub record Sums : Type 0 where
       (node 0 (p.compare_form (node 0 (p.concat_form (num 0 1) (operands (p.operand_node 1 (node 2 (p.range_form (num 2 2) 3 (num 4 3))) ∷ [])))) op.PairsLt 5 (num 6 4)))
 
 sums_read : Sums
-unfolding read_many read_times inside is g.variable g.parens g.times g.item_type g.empty_parens g.empty_rest g.empty_type g.seq_type g.single_type g.as_type g.literal g.in_parens g.in_braces g.content g.paren g.merge g.array g.name_key g.computed_key g.pair_key g.pair g.pair_list g.pairs g.object g.argument g.argument_list g.some_arguments g.arguments g.arity g.call g.inline_function g.primary g.members g.member g.filter g.bracket_step g.plain_key g.computed_lookup g.field_step g.call_step g.step g.steps g.postfix g.mapped_operand g.mapped_operands g.map_level g.sign_mark g.sign_marks g.sign g.cast_type g.cast g.castable_type g.castable g.treat_type g.treat g.instance_type g.instance g.factor g.factors g.product g.term g.terms g.sum g.range_end g.range g.concat_operand g.concat_operands g.concat g.compared g.comparison g.compare g.not_level g.and_operand g.and_operands g.and_level g.or_operand g.or_operands g.or_level g.allowing g.at_variable g.for_var g.window g.for_vars g.for_clause g.let_var g.let_vars g.let_clause g.first_clause g.keep_clause g.group_value g.group_var g.group_vars g.group_clause g.empty_order g.direction g.order_key g.order_list g.order_keys g.order_clause g.count_clause g.one_clause g.clause g.returned g.clauses g.flwor g.bind g.binds g.quant g.case_test g.case_tests g.case g.cases g.switch g.seq_types g.case_variable g.type_case g.default_variable g.type_default g.type_cases g.typeswitch g.if g.catch_names g.catch_codes g.catch g.catches g.try g.single g.comma_operand g.comma_operands g.expr g.param g.variable_declaration g.param_list g.some_params g.params g.function_body g.function_declaration g.declaration g.declarations g.module_part
+unfolding read_many read_times inside is g.variable g.parens g.times g.item_type g.empty_parens g.empty_rest g.empty_type g.seq_type g.single_type g.as_type g.literal g.in_parens g.in_braces g.content g.paren g.merge g.array g.name_key g.computed_key g.pair_key g.pair g.pair_list g.pairs g.object g.argument g.argument_list g.some_arguments g.arguments g.arity g.call g.inline_function g.primary g.members g.member g.filter g.bracket_step g.plain_key g.computed_lookup g.field_step g.call_step g.step g.steps g.postfix g.mapped_operand g.mapped_operands g.map_level g.sign_mark g.sign_marks g.sign g.cast_type g.cast g.castable_type g.castable g.treat_type g.treat g.instance_type g.instance g.factor g.factors g.product g.term g.terms g.sum g.range_end g.range g.concat_operand g.concat_operands g.concat g.compared g.comparison g.compare g.not_level g.and_operand g.and_operands g.and_level g.or_operand g.or_operands g.or_level g.allowing g.at_variable g.for_var g.window g.for_vars g.for_clause g.let_var g.let_vars g.let_clause g.first_clause g.where_clause g.group_value g.group_var g.group_vars g.group_clause g.empty_order g.direction g.order_key g.order_list g.order_keys g.order_clause g.count_clause g.one_clause g.clause g.returned g.clauses g.flwor g.bind g.binds g.quant g.case_test g.case_tests g.case g.cases g.switch g.seq_types g.case_variable g.type_case g.default_variable g.type_default g.type_cases g.typeswitch g.if g.catch_names g.catch_codes g.catch g.catches g.try g.single g.comma_operand g.comma_operands g.expr g.param g.variable_declaration g.param_list g.some_params g.params g.function_body g.function_declaration g.declaration g.declarations g.module_part
 sums_read = record { two_minus = refl; div_idiv = refl; times_plus_mod = refl; sign_plus = refl; range_of_sum = refl; concat_compared = refl }
 
 -- the operators with a type, from the tightest; a sign behind a type's name belongs to it
@@ -187,7 +187,7 @@ pub record Types : Type 0 where
       (node 0 (p.instance_form (node 0 (p.treat_form (node 0 (p.castable_form (node 0 (p.cast_form (num 0 1) 1 (one_type 3 (codes "a")))) 4 (of_type 6 (codes "b") false times.Optional))) 8 (of_type 10 (codes "c") true times.Any))) 14 (one_type 16 (codes "d"))))
 
 types_read : Types
-unfolding read_many read_times inside is g.variable g.parens g.times g.item_type g.empty_parens g.empty_rest g.empty_type g.seq_type g.single_type g.as_type g.literal g.in_parens g.in_braces g.content g.paren g.merge g.array g.name_key g.computed_key g.pair_key g.pair g.pair_list g.pairs g.object g.argument g.argument_list g.some_arguments g.arguments g.arity g.call g.inline_function g.primary g.members g.member g.filter g.bracket_step g.plain_key g.computed_lookup g.field_step g.call_step g.step g.steps g.postfix g.mapped_operand g.mapped_operands g.map_level g.sign_mark g.sign_marks g.sign g.cast_type g.cast g.castable_type g.castable g.treat_type g.treat g.instance_type g.instance g.factor g.factors g.product g.term g.terms g.sum g.range_end g.range g.concat_operand g.concat_operands g.concat g.compared g.comparison g.compare g.not_level g.and_operand g.and_operands g.and_level g.or_operand g.or_operands g.or_level g.allowing g.at_variable g.for_var g.window g.for_vars g.for_clause g.let_var g.let_vars g.let_clause g.first_clause g.keep_clause g.group_value g.group_var g.group_vars g.group_clause g.empty_order g.direction g.order_key g.order_list g.order_keys g.order_clause g.count_clause g.one_clause g.clause g.returned g.clauses g.flwor g.bind g.binds g.quant g.case_test g.case_tests g.case g.cases g.switch g.seq_types g.case_variable g.type_case g.default_variable g.type_default g.type_cases g.typeswitch g.if g.catch_names g.catch_codes g.catch g.catches g.try g.single g.comma_operand g.comma_operands g.expr g.param g.variable_declaration g.param_list g.some_params g.params g.function_body g.function_declaration g.declaration g.declarations g.module_part
+unfolding read_many read_times inside is g.variable g.parens g.times g.item_type g.empty_parens g.empty_rest g.empty_type g.seq_type g.single_type g.as_type g.literal g.in_parens g.in_braces g.content g.paren g.merge g.array g.name_key g.computed_key g.pair_key g.pair g.pair_list g.pairs g.object g.argument g.argument_list g.some_arguments g.arguments g.arity g.call g.inline_function g.primary g.members g.member g.filter g.bracket_step g.plain_key g.computed_lookup g.field_step g.call_step g.step g.steps g.postfix g.mapped_operand g.mapped_operands g.map_level g.sign_mark g.sign_marks g.sign g.cast_type g.cast g.castable_type g.castable g.treat_type g.treat g.instance_type g.instance g.factor g.factors g.product g.term g.terms g.sum g.range_end g.range g.concat_operand g.concat_operands g.concat g.compared g.comparison g.compare g.not_level g.and_operand g.and_operands g.and_level g.or_operand g.or_operands g.or_level g.allowing g.at_variable g.for_var g.window g.for_vars g.for_clause g.let_var g.let_vars g.let_clause g.first_clause g.where_clause g.group_value g.group_var g.group_vars g.group_clause g.empty_order g.direction g.order_key g.order_list g.order_keys g.order_clause g.count_clause g.one_clause g.clause g.returned g.clauses g.flwor g.bind g.binds g.quant g.case_test g.case_tests g.case g.cases g.switch g.seq_types g.case_variable g.type_case g.default_variable g.type_default g.type_cases g.typeswitch g.if g.catch_names g.catch_codes g.catch g.catches g.try g.single g.comma_operand g.comma_operands g.expr g.param g.variable_declaration g.param_list g.some_params g.params g.function_body g.function_declaration g.declaration g.declarations g.module_part
 types_read = record { instance_of = refl; empty_sequence = refl; each_type = refl }
 
 -- steps bind tighter than `!`, and that tighter than a sign
@@ -206,7 +206,7 @@ pub record Steps : Type 0 where
       (node 0 (p.sign_form ((sums.Plus, 0) ∷ []) (node 1 (p.map_form (read_var 1 (codes "a")) (operands (p.operand_node 2 (node 3 (p.postfix_form (node 3 p.context_form) (steps (p.filter_step 4 (num 5 1) ∷ [])))) ∷ p.operand_node 7 (num 8 2) ∷ []))))))
 
 steps_read : Steps
-unfolding read_many read_times inside is g.variable g.parens g.times g.item_type g.empty_parens g.empty_rest g.empty_type g.seq_type g.single_type g.as_type g.literal g.in_parens g.in_braces g.content g.paren g.merge g.array g.name_key g.computed_key g.pair_key g.pair g.pair_list g.pairs g.object g.argument g.argument_list g.some_arguments g.arguments g.arity g.call g.inline_function g.primary g.members g.member g.filter g.bracket_step g.plain_key g.computed_lookup g.field_step g.call_step g.step g.steps g.postfix g.mapped_operand g.mapped_operands g.map_level g.sign_mark g.sign_marks g.sign g.cast_type g.cast g.castable_type g.castable g.treat_type g.treat g.instance_type g.instance g.factor g.factors g.product g.term g.terms g.sum g.range_end g.range g.concat_operand g.concat_operands g.concat g.compared g.comparison g.compare g.not_level g.and_operand g.and_operands g.and_level g.or_operand g.or_operands g.or_level g.allowing g.at_variable g.for_var g.window g.for_vars g.for_clause g.let_var g.let_vars g.let_clause g.first_clause g.keep_clause g.group_value g.group_var g.group_vars g.group_clause g.empty_order g.direction g.order_key g.order_list g.order_keys g.order_clause g.count_clause g.one_clause g.clause g.returned g.clauses g.flwor g.bind g.binds g.quant g.case_test g.case_tests g.case g.cases g.switch g.seq_types g.case_variable g.type_case g.default_variable g.type_default g.type_cases g.typeswitch g.if g.catch_names g.catch_codes g.catch g.catches g.try g.single g.comma_operand g.comma_operands g.expr g.param g.variable_declaration g.param_list g.some_params g.params g.function_body g.function_declaration g.declaration g.declarations g.module_part
+unfolding read_many read_times inside is g.variable g.parens g.times g.item_type g.empty_parens g.empty_rest g.empty_type g.seq_type g.single_type g.as_type g.literal g.in_parens g.in_braces g.content g.paren g.merge g.array g.name_key g.computed_key g.pair_key g.pair g.pair_list g.pairs g.object g.argument g.argument_list g.some_arguments g.arguments g.arity g.call g.inline_function g.primary g.members g.member g.filter g.bracket_step g.plain_key g.computed_lookup g.field_step g.call_step g.step g.steps g.postfix g.mapped_operand g.mapped_operands g.map_level g.sign_mark g.sign_marks g.sign g.cast_type g.cast g.castable_type g.castable g.treat_type g.treat g.instance_type g.instance g.factor g.factors g.product g.term g.terms g.sum g.range_end g.range g.concat_operand g.concat_operands g.concat g.compared g.comparison g.compare g.not_level g.and_operand g.and_operands g.and_level g.or_operand g.or_operands g.or_level g.allowing g.at_variable g.for_var g.window g.for_vars g.for_clause g.let_var g.let_vars g.let_clause g.first_clause g.where_clause g.group_value g.group_var g.group_vars g.group_clause g.empty_order g.direction g.order_key g.order_list g.order_keys g.order_clause g.count_clause g.one_clause g.clause g.returned g.clauses g.flwor g.bind g.binds g.quant g.case_test g.case_tests g.case g.cases g.switch g.seq_types g.case_variable g.type_case g.default_variable g.type_default g.type_cases g.typeswitch g.if g.catch_names g.catch_codes g.catch g.catches g.try g.single g.comma_operand g.comma_operands g.expr g.param g.variable_declaration g.param_list g.some_params g.params g.function_body g.function_declaration g.declaration g.declarations g.module_part
 steps_read = record { fields = refl; arrays = refl; lookups = refl; bangs = refl }
 
 -- literals, parentheses, constructors and calls
@@ -228,7 +228,7 @@ pub record Primaries : Type 0 where
       (node 0 (p.call_form (codes "f") (p.more_trees (num 2 1) (p.more_trees (node 4 (p.call_form (codes "g") p.no_trees)) p.no_trees))))
 
 primaries_read : Primaries
-unfolding read_many read_times inside is g.variable g.parens g.times g.item_type g.empty_parens g.empty_rest g.empty_type g.seq_type g.single_type g.as_type g.literal g.in_parens g.in_braces g.content g.paren g.merge g.array g.name_key g.computed_key g.pair_key g.pair g.pair_list g.pairs g.object g.argument g.argument_list g.some_arguments g.arguments g.arity g.call g.inline_function g.primary g.members g.member g.filter g.bracket_step g.plain_key g.computed_lookup g.field_step g.call_step g.step g.steps g.postfix g.mapped_operand g.mapped_operands g.map_level g.sign_mark g.sign_marks g.sign g.cast_type g.cast g.castable_type g.castable g.treat_type g.treat g.instance_type g.instance g.factor g.factors g.product g.term g.terms g.sum g.range_end g.range g.concat_operand g.concat_operands g.concat g.compared g.comparison g.compare g.not_level g.and_operand g.and_operands g.and_level g.or_operand g.or_operands g.or_level g.allowing g.at_variable g.for_var g.window g.for_vars g.for_clause g.let_var g.let_vars g.let_clause g.first_clause g.keep_clause g.group_value g.group_var g.group_vars g.group_clause g.empty_order g.direction g.order_key g.order_list g.order_keys g.order_clause g.count_clause g.one_clause g.clause g.returned g.clauses g.flwor g.bind g.binds g.quant g.case_test g.case_tests g.case g.cases g.switch g.seq_types g.case_variable g.type_case g.default_variable g.type_default g.type_cases g.typeswitch g.if g.catch_names g.catch_codes g.catch g.catches g.try g.single g.comma_operand g.comma_operands g.expr g.param g.variable_declaration g.param_list g.some_params g.params g.function_body g.function_declaration g.declaration g.declarations g.module_part
+unfolding read_many read_times inside is g.variable g.parens g.times g.item_type g.empty_parens g.empty_rest g.empty_type g.seq_type g.single_type g.as_type g.literal g.in_parens g.in_braces g.content g.paren g.merge g.array g.name_key g.computed_key g.pair_key g.pair g.pair_list g.pairs g.object g.argument g.argument_list g.some_arguments g.arguments g.arity g.call g.inline_function g.primary g.members g.member g.filter g.bracket_step g.plain_key g.computed_lookup g.field_step g.call_step g.step g.steps g.postfix g.mapped_operand g.mapped_operands g.map_level g.sign_mark g.sign_marks g.sign g.cast_type g.cast g.castable_type g.castable g.treat_type g.treat g.instance_type g.instance g.factor g.factors g.product g.term g.terms g.sum g.range_end g.range g.concat_operand g.concat_operands g.concat g.compared g.comparison g.compare g.not_level g.and_operand g.and_operands g.and_level g.or_operand g.or_operands g.or_level g.allowing g.at_variable g.for_var g.window g.for_vars g.for_clause g.let_var g.let_vars g.let_clause g.first_clause g.where_clause g.group_value g.group_var g.group_vars g.group_clause g.empty_order g.direction g.order_key g.order_list g.order_keys g.order_clause g.count_clause g.one_clause g.clause g.returned g.clauses g.flwor g.bind g.binds g.quant g.case_test g.case_tests g.case g.cases g.switch g.seq_types g.case_variable g.type_case g.default_variable g.type_default g.type_cases g.typeswitch g.if g.catch_names g.catch_codes g.catch g.catches g.try g.single g.comma_operand g.comma_operands g.expr g.param g.variable_declaration g.param_list g.some_params g.params g.function_body g.function_declaration g.declaration g.declarations g.module_part
 primaries_read = record { literals = refl; parentheses = refl; objects = refl; arrays_and_merges = refl; calls = refl }
 
 -- the forms that begin with a keyword
@@ -253,20 +253,20 @@ pub record Statements : Type 0 where
       (node 0 (p.quant_form quantifiers.Every (binds (p.bind_node (named 1 (codes "x")) None (num 3 1) ∷ [])) (num 5 2)))
 
 statements_read : Statements
-unfolding read_many read_times inside is g.variable g.parens g.times g.item_type g.empty_parens g.empty_rest g.empty_type g.seq_type g.single_type g.as_type g.literal g.in_parens g.in_braces g.content g.paren g.merge g.array g.name_key g.computed_key g.pair_key g.pair g.pair_list g.pairs g.object g.argument g.argument_list g.some_arguments g.arguments g.arity g.call g.inline_function g.primary g.members g.member g.filter g.bracket_step g.plain_key g.computed_lookup g.field_step g.call_step g.step g.steps g.postfix g.mapped_operand g.mapped_operands g.map_level g.sign_mark g.sign_marks g.sign g.cast_type g.cast g.castable_type g.castable g.treat_type g.treat g.instance_type g.instance g.factor g.factors g.product g.term g.terms g.sum g.range_end g.range g.concat_operand g.concat_operands g.concat g.compared g.comparison g.compare g.not_level g.and_operand g.and_operands g.and_level g.or_operand g.or_operands g.or_level g.allowing g.at_variable g.for_var g.window g.for_vars g.for_clause g.let_var g.let_vars g.let_clause g.first_clause g.keep_clause g.group_value g.group_var g.group_vars g.group_clause g.empty_order g.direction g.order_key g.order_list g.order_keys g.order_clause g.count_clause g.one_clause g.clause g.returned g.clauses g.flwor g.bind g.binds g.quant g.case_test g.case_tests g.case g.cases g.switch g.seq_types g.case_variable g.type_case g.default_variable g.type_default g.type_cases g.typeswitch g.if g.catch_names g.catch_codes g.catch g.catches g.try g.single g.comma_operand g.comma_operands g.expr g.param g.variable_declaration g.param_list g.some_params g.params g.function_body g.function_declaration g.declaration g.declarations g.module_part
+unfolding read_many read_times inside is g.variable g.parens g.times g.item_type g.empty_parens g.empty_rest g.empty_type g.seq_type g.single_type g.as_type g.literal g.in_parens g.in_braces g.content g.paren g.merge g.array g.name_key g.computed_key g.pair_key g.pair g.pair_list g.pairs g.object g.argument g.argument_list g.some_arguments g.arguments g.arity g.call g.inline_function g.primary g.members g.member g.filter g.bracket_step g.plain_key g.computed_lookup g.field_step g.call_step g.step g.steps g.postfix g.mapped_operand g.mapped_operands g.map_level g.sign_mark g.sign_marks g.sign g.cast_type g.cast g.castable_type g.castable g.treat_type g.treat g.instance_type g.instance g.factor g.factors g.product g.term g.terms g.sum g.range_end g.range g.concat_operand g.concat_operands g.concat g.compared g.comparison g.compare g.not_level g.and_operand g.and_operands g.and_level g.or_operand g.or_operands g.or_level g.allowing g.at_variable g.for_var g.window g.for_vars g.for_clause g.let_var g.let_vars g.let_clause g.first_clause g.where_clause g.group_value g.group_var g.group_vars g.group_clause g.empty_order g.direction g.order_key g.order_list g.order_keys g.order_clause g.count_clause g.one_clause g.clause g.returned g.clauses g.flwor g.bind g.binds g.quant g.case_test g.case_tests g.case g.cases g.switch g.seq_types g.case_variable g.type_case g.default_variable g.type_default g.type_cases g.typeswitch g.if g.catch_names g.catch_codes g.catch g.catches g.try g.single g.comma_operand g.comma_operands g.expr g.param g.variable_declaration g.param_list g.some_params g.params g.function_body g.function_declaration g.declaration g.declarations g.module_part
 statements_read = record { ifs = refl; tries = refl; switches = refl; typeswitches = refl; somes = refl; everies = refl }
 
 -- a FLWOR, with a clause for each variable
 pub record Clauses : Type 0 where
   -- for $x as a allowing empty at $i in 1, $y in 2 let $z := 3 where 4 return 5
   pub for_and_let : Is (a k.For ∷ var (codes "x") ∷ a k.As ∷ name (codes "a") ∷ a k.Allowing ∷ a k.Empty ∷ a k.At ∷ var (codes "i") ∷ a k.In ∷ int 1 ∷ a k.Comma ∷ var (codes "y") ∷ a k.In ∷ int 2 ∷ a k.Let ∷ var (codes "z") ∷ a k.Assign ∷ int 3 ∷ a k.Where ∷ int 4 ∷ a k.Return ∷ int 5 ∷ [])
-      (node 0 (p.flwor_form (clauses (p.for_clause (named 1 (codes "x")) (Some (one_type 3 (codes "a"))) true (Some (named 7 (codes "i"))) (num 9 1) ∷ p.for_clause (named 11 (codes "y")) None false None (num 13 2) ∷ p.let_clause (named 15 (codes "z")) None (num 17 3) ∷ p.keep_clause 18 (num 19 4) ∷ [])) 20 (num 21 5)))
+      (node 0 (p.flwor_form (clauses (p.for_clause (named 1 (codes "x")) (Some (one_type 3 (codes "a"))) true (Some (named 7 (codes "i"))) (num 9 1) ∷ p.for_clause (named 11 (codes "y")) None false None (num 13 2) ∷ p.let_clause (named 15 (codes "z")) None (num 17 3) ∷ p.where_clause 18 (num 19 4) ∷ [])) 20 (num 21 5)))
   -- let $x := 1 group by $g, $h := 2 stable order by 3 descending empty greatest, 4 ascending count $c order by 5 return 6
   pub group_and_order : Is (a k.Let ∷ var (codes "x") ∷ a k.Assign ∷ int 1 ∷ a k.Group ∷ a k.By ∷ var (codes "g") ∷ a k.Comma ∷ var (codes "h") ∷ a k.Assign ∷ int 2 ∷ a k.Stable ∷ a k.Order ∷ a k.By ∷ int 3 ∷ a k.Descending ∷ a k.Empty ∷ a k.Greatest ∷ a k.Comma ∷ int 4 ∷ a k.Ascending ∷ a k.Count ∷ var (codes "c") ∷ a k.Order ∷ a k.By ∷ int 5 ∷ a k.Return ∷ int 6 ∷ [])
       (node 0 (p.flwor_form (clauses (p.let_clause (named 1 (codes "x")) None (num 3 1) ∷ p.group_clause 4 (p.group_vars_of Name Name TypeName (p.stream_group_var (named 6 (codes "g")) ∷ p.computed_group_var (named 8 (codes "h")) (num 10 2) ∷ [])) ∷ p.order_clause 11 true (keys (p.order_key_node (num 14 3) true true ∷ p.order_key_node (num 19 4) false false ∷ [])) ∷ p.count_clause 21 (named 22 (codes "c")) ∷ p.order_clause 23 false (keys (p.order_key_node (num 25 5) false false ∷ [])) ∷ [])) 26 (num 27 6)))
 
 clauses_read : Clauses
-unfolding read_many read_times inside is g.variable g.parens g.times g.item_type g.empty_parens g.empty_rest g.empty_type g.seq_type g.single_type g.as_type g.literal g.in_parens g.in_braces g.content g.paren g.merge g.array g.name_key g.computed_key g.pair_key g.pair g.pair_list g.pairs g.object g.argument g.argument_list g.some_arguments g.arguments g.arity g.call g.inline_function g.primary g.members g.member g.filter g.bracket_step g.plain_key g.computed_lookup g.field_step g.call_step g.step g.steps g.postfix g.mapped_operand g.mapped_operands g.map_level g.sign_mark g.sign_marks g.sign g.cast_type g.cast g.castable_type g.castable g.treat_type g.treat g.instance_type g.instance g.factor g.factors g.product g.term g.terms g.sum g.range_end g.range g.concat_operand g.concat_operands g.concat g.compared g.comparison g.compare g.not_level g.and_operand g.and_operands g.and_level g.or_operand g.or_operands g.or_level g.allowing g.at_variable g.for_var g.window g.for_vars g.for_clause g.let_var g.let_vars g.let_clause g.first_clause g.keep_clause g.group_value g.group_var g.group_vars g.group_clause g.empty_order g.direction g.order_key g.order_list g.order_keys g.order_clause g.count_clause g.one_clause g.clause g.returned g.clauses g.flwor g.bind g.binds g.quant g.case_test g.case_tests g.case g.cases g.switch g.seq_types g.case_variable g.type_case g.default_variable g.type_default g.type_cases g.typeswitch g.if g.catch_names g.catch_codes g.catch g.catches g.try g.single g.comma_operand g.comma_operands g.expr g.param g.variable_declaration g.param_list g.some_params g.params g.function_body g.function_declaration g.declaration g.declarations g.module_part
+unfolding read_many read_times inside is g.variable g.parens g.times g.item_type g.empty_parens g.empty_rest g.empty_type g.seq_type g.single_type g.as_type g.literal g.in_parens g.in_braces g.content g.paren g.merge g.array g.name_key g.computed_key g.pair_key g.pair g.pair_list g.pairs g.object g.argument g.argument_list g.some_arguments g.arguments g.arity g.call g.inline_function g.primary g.members g.member g.filter g.bracket_step g.plain_key g.computed_lookup g.field_step g.call_step g.step g.steps g.postfix g.mapped_operand g.mapped_operands g.map_level g.sign_mark g.sign_marks g.sign g.cast_type g.cast g.castable_type g.castable g.treat_type g.treat g.instance_type g.instance g.factor g.factors g.product g.term g.terms g.sum g.range_end g.range g.concat_operand g.concat_operands g.concat g.compared g.comparison g.compare g.not_level g.and_operand g.and_operands g.and_level g.or_operand g.or_operands g.or_level g.allowing g.at_variable g.for_var g.window g.for_vars g.for_clause g.let_var g.let_vars g.let_clause g.first_clause g.where_clause g.group_value g.group_var g.group_vars g.group_clause g.empty_order g.direction g.order_key g.order_list g.order_keys g.order_clause g.count_clause g.one_clause g.clause g.returned g.clauses g.flwor g.bind g.binds g.quant g.case_test g.case_tests g.case g.cases g.switch g.seq_types g.case_variable g.type_case g.default_variable g.type_default g.type_cases g.typeswitch g.if g.catch_names g.catch_codes g.catch g.catches g.try g.single g.comma_operand g.comma_operands g.expr g.param g.variable_declaration g.param_list g.some_params g.params g.function_body g.function_declaration g.declaration g.declarations g.module_part
 clauses_read = record { for_and_let = refl; group_and_order = refl }
 
 abbrev declared : Module
@@ -283,5 +283,5 @@ declared = record {
 
 -- declare variable $x := 1; declare function f($a as b) as c { 2 }; 3
 declarations_read : Reads (a k.Declare ∷ a k.Variable ∷ var (codes "x") ∷ a k.Assign ∷ int 1 ∷ a k.Semicolon ∷ a k.Declare ∷ a k.Function ∷ name (codes "f") ∷ a k.OpenParen ∷ var (codes "a") ∷ a k.As ∷ name (codes "b") ∷ a k.CloseParen ∷ a k.As ∷ name (codes "c") ∷ a k.OpenBrace ∷ int 2 ∷ a k.CloseBrace ∷ a k.Semicolon ∷ int 3 ∷ []) declared
-unfolding read_many read_times inside is g.variable g.parens g.times g.item_type g.empty_parens g.empty_rest g.empty_type g.seq_type g.single_type g.as_type g.literal g.in_parens g.in_braces g.content g.paren g.merge g.array g.name_key g.computed_key g.pair_key g.pair g.pair_list g.pairs g.object g.argument g.argument_list g.some_arguments g.arguments g.arity g.call g.inline_function g.primary g.members g.member g.filter g.bracket_step g.plain_key g.computed_lookup g.field_step g.call_step g.step g.steps g.postfix g.mapped_operand g.mapped_operands g.map_level g.sign_mark g.sign_marks g.sign g.cast_type g.cast g.castable_type g.castable g.treat_type g.treat g.instance_type g.instance g.factor g.factors g.product g.term g.terms g.sum g.range_end g.range g.concat_operand g.concat_operands g.concat g.compared g.comparison g.compare g.not_level g.and_operand g.and_operands g.and_level g.or_operand g.or_operands g.or_level g.allowing g.at_variable g.for_var g.window g.for_vars g.for_clause g.let_var g.let_vars g.let_clause g.first_clause g.keep_clause g.group_value g.group_var g.group_vars g.group_clause g.empty_order g.direction g.order_key g.order_list g.order_keys g.order_clause g.count_clause g.one_clause g.clause g.returned g.clauses g.flwor g.bind g.binds g.quant g.case_test g.case_tests g.case g.cases g.switch g.seq_types g.case_variable g.type_case g.default_variable g.type_default g.type_cases g.typeswitch g.if g.catch_names g.catch_codes g.catch g.catches g.try g.single g.comma_operand g.comma_operands g.expr g.param g.variable_declaration g.param_list g.some_params g.params g.function_body g.function_declaration g.declaration g.declarations g.module_part
+unfolding read_many read_times inside is g.variable g.parens g.times g.item_type g.empty_parens g.empty_rest g.empty_type g.seq_type g.single_type g.as_type g.literal g.in_parens g.in_braces g.content g.paren g.merge g.array g.name_key g.computed_key g.pair_key g.pair g.pair_list g.pairs g.object g.argument g.argument_list g.some_arguments g.arguments g.arity g.call g.inline_function g.primary g.members g.member g.filter g.bracket_step g.plain_key g.computed_lookup g.field_step g.call_step g.step g.steps g.postfix g.mapped_operand g.mapped_operands g.map_level g.sign_mark g.sign_marks g.sign g.cast_type g.cast g.castable_type g.castable g.treat_type g.treat g.instance_type g.instance g.factor g.factors g.product g.term g.terms g.sum g.range_end g.range g.concat_operand g.concat_operands g.concat g.compared g.comparison g.compare g.not_level g.and_operand g.and_operands g.and_level g.or_operand g.or_operands g.or_level g.allowing g.at_variable g.for_var g.window g.for_vars g.for_clause g.let_var g.let_vars g.let_clause g.first_clause g.where_clause g.group_value g.group_var g.group_vars g.group_clause g.empty_order g.direction g.order_key g.order_list g.order_keys g.order_clause g.count_clause g.one_clause g.clause g.returned g.clauses g.flwor g.bind g.binds g.quant g.case_test g.case_tests g.case g.cases g.switch g.seq_types g.case_variable g.type_case g.default_variable g.type_default g.type_cases g.typeswitch g.if g.catch_names g.catch_codes g.catch g.catches g.try g.single g.comma_operand g.comma_operands g.expr g.param g.variable_declaration g.param_list g.some_params g.params g.function_body g.function_declaration g.declaration g.declarations g.module_part
 declarations_read = refl

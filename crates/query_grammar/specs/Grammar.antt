@@ -403,9 +403,9 @@ module _ (m : Mode) (inner : Inner Word Part Tree) where
   unfoldable pub first_clause : Lang (ℕ × List Clause)
   first_clause = alt (is k.For) for_clause let_clause
 
-  -- Keep = "where" Single
-  unfoldable pub keep_clause : Lang Clause
-  keep_clause = mapped n.keep_clause (from k.Where (inner i.Single))
+  -- Where = "where" Single
+  unfoldable pub where_clause : Lang Clause
+  where_clause = mapped n.where_clause (from k.Where (inner i.Single))
 
   -- [ ":=" Single ]
   unfoldable pub group_value : Lang (Option Tree)
@@ -453,13 +453,13 @@ module _ (m : Mode) (inner : Inner Word Part Tree) where
   unfoldable pub count_clause : Lang Clause
   count_clause = mapped n.count_clause (from k.Count variable)
 
-  -- Keep | Group | Order | Count
+  -- Where | Group | Order | Count
   unfoldable pub one_clause : Lang Clause
   one_clause =
-      alt (is k.Where) keep_clause
+      alt (is k.Where) where_clause
       (alt (is k.Group) group_clause (alt order_clause_first order_clause count_clause))
 
-  -- For | Let | Keep | Group | Order | Count
+  -- For | Let | Where | Group | Order | Count
   unfoldable pub clause : Lang (List Clause)
   clause =
       alt first_clause_first (mapped n.clauses_of first_clause) (mapped n.just_clause one_clause)
@@ -470,11 +470,11 @@ module _ (m : Mode) (inner : Inner Word Part Tree) where
   unfoldable pub returned : Lang Tree
   returned = before k.Return (inner i.Single)
 
-  -- { For | Let | Keep | Group | Order | Count }
+  -- { For | Let | Where | Group | Order | Count }
   unfoldable pub clauses : Lang (List (List Clause))
   clauses = many clause_first clause
 
-  -- Flwor = ( For | Let ) { For | Let | Keep | Group | Order | Count } "return" Single
+  -- Flwor = ( For | Let ) { For | Let | Where | Group | Order | Count } "return" Single
   unfoldable pub flwor : Lang Tree
   flwor =
       only m.room (mapped n.flwor (seq first_clause (seq clauses (from k.Return (inner i.Single)))))

@@ -348,8 +348,8 @@ no_clauses w = []
 abbrev pub let_var : Placed Name × (Option Type' × Tree) → Clause
 let_var z = p.let_clause z.0 z.1.0 z.1.1
 
-abbrev pub keep_clause : ℕ × Tree → Clause
-keep_clause z = p.keep_clause z.0 z.1
+abbrev pub where_clause : ℕ × Tree → Clause
+where_clause z = p.where_clause z.0 z.1
 
 abbrev pub group_var : Placed Name × Option Tree → GroupVar
 group_var (variable, None) = p.stream_group_var variable

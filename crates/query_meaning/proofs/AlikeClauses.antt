@@ -187,7 +187,7 @@ module _ (R : Source → Type 0) (inner : Inner) (looks : Looks R inner) (env ot
       each_tuple-match number (λ n. for_tuples inner variable type allowing_empty at source env) (λ n. for_tuples inner variable type allowing_empty at source other) (λ n t u a. for-match variable type allowing_empty at source w t u a) ts us h
   clause-match number stream (p.let_clause variable type e) s w ts us h =
       each_tuple-match number (λ n. let_tuples inner variable type e env) (λ n. let_tuples inner variable type e other) (λ n t u a. let-match variable type e w t u a) ts us h
-  clause-match number stream (p.keep_clause place test) s w ts us h =
+  clause-match number stream (p.where_clause place test) s w ts us h =
       each_tuple-match number (λ n. where_tuples inner test env) (λ n. where_tuples inner test other) (λ n t u a. where-match test w t u a) ts us h
   clause-match number stream (p.count_clause place variable) s w ts us h =
       each_tuple-match number (count_tuples variable) (count_tuples variable) (count-match variable) ts us h

@@ -173,13 +173,13 @@ impl<F: Fn(Global, bool, usize, Part, &mut Cursor<'_, Word>) -> Result<NamedExpr
         Ok((place, clauses))
     }
 
-    /// `Keep`
-    #[tactic(auto, unfolding(query_grammar::specs::Grammar::keep_clause))]
-    pub fn keep_clause(&self, cursor: &mut Cursor<'_, Word>) -> Result<NamedClause, Stop>
+    /// `Where`
+    #[tactic(auto, unfolding(query_grammar::specs::Grammar::where_clause))]
+    pub fn where_clause(&self, cursor: &mut Cursor<'_, Word>) -> Result<NamedClause, Stop>
         requires { Nests forms named_tree self.now.parts.wide self.now.parts.depth
             (F.pre self.now.parts.inner) (F.post self.now.parts.inner) }
         ensures { ReadsAs named_clause
-            (reader g.keep_clause self.now.parts.wide self.now.parts.depth cursor.old.rest.now)
+            (reader g.where_clause self.now.parts.wide self.now.parts.depth cursor.old.rest.now)
             result cursor.new.rest.now }
     {
         let place = cursor.expect(Kind::Where)?.place;
@@ -354,7 +354,7 @@ impl<F: Fn(Global, bool, usize, Part, &mut Cursor<'_, Word>) -> Result<NamedExpr
         Ok(count_of(place, variable))
     }
 
-    /// `Keep | Group | Order | Count`
+    /// `Where | Group | Order | Count`
     #[tactic(auto, unfolding(query_grammar::specs::Grammar::one_clause))]
     pub fn one_clause(&self, cursor: &mut Cursor<'_, Word>) -> Result<NamedClause, Stop>
         requires { Nests forms named_tree self.now.parts.wide self.now.parts.depth
@@ -364,7 +364,7 @@ impl<F: Fn(Global, bool, usize, Part, &mut Cursor<'_, Word>) -> Result<NamedExpr
             result cursor.new.rest.now }
     {
         if cursor.sees(Kind::Where) {
-            self.keep_clause(cursor)
+            self.where_clause(cursor)
         } else if cursor.sees(Kind::Group) {
             self.group_clause(cursor)
         } else if cursor.sees(Class::OrderClause) {
@@ -374,7 +374,7 @@ impl<F: Fn(Global, bool, usize, Part, &mut Cursor<'_, Word>) -> Result<NamedExpr
         }
     }
 
-    /// `For | Let | Keep | Group | Order | Count`
+    /// `For | Let | Where | Group | Order | Count`
     #[tactic(auto, unfolding(query_grammar::specs::Grammar::clause))]
     pub fn clause(&self, cursor: &mut Cursor<'_, Word>) -> Result<Vec<NamedClause>, Stop>
         requires { Nests forms named_tree self.now.parts.wide self.now.parts.depth
@@ -391,7 +391,7 @@ impl<F: Fn(Global, bool, usize, Part, &mut Cursor<'_, Word>) -> Result<NamedExpr
         one(self.parts.alloc, clause)
     }
 
-    /// `{ For | Let | Keep | Group | Order | Count }`
+    /// `{ For | Let | Where | Group | Order | Count }`
     #[tactic(auto, unfolding(query_grammar::specs::Grammar::clauses))]
     pub fn clauses(&self, cursor: &mut Cursor<'_, Word>) -> Result<Vec<Vec<NamedClause>>, Stop>
         requires { Nests forms named_tree self.now.parts.wide self.now.parts.depth

@@ -55,9 +55,9 @@ pub fn let_of(variable: Placed<Str>, of: Option<Placed<TypeName>>, value: NamedE
 
 #[tactic(auto, using(query_tree::proofs::Layers::layers))]
 pub fn keep_of(place: u32, test: NamedExpr) -> NamedClause
-    ensures { named_clause result ≡ n.keep_clause (place, named_tree test) }
+    ensures { named_clause result ≡ n.where_clause (place, named_tree test) }
 {
-    Clause::Keep { place, test }
+    Clause::Where { place, test }
 }
 
 #[tactic(auto, using(query_tree::proofs::Layers::layers))]

@@ -41,7 +41,7 @@ nested = refl
 -- for $x in count(1) where count(1) group by $k := count(1) order by count(1) count $c return count(1)
 clauses : calls (p.tree_node 0 (p.flwor_form
     (p.more_clauses (p.for_clause (at 0 (Local 0)) None false None (count 1 one))
-    (p.more_clauses (p.keep_clause 0 (count 2 one))
+    (p.more_clauses (p.where_clause 0 (count 2 one))
     (p.more_clauses (p.group_clause 0 (p.more_group_vars (p.computed_group_var (at 0 (Local 1)) (count 3 one)) p.no_group_vars))
     (p.more_clauses (p.order_clause 0 false (p.more_order_keys (p.order_key_node (count 4 one) false false) p.no_order_keys))
     (p.more_clauses (p.count_clause 0 (at 0 (Local 2))) p.no_clauses))))) 0 (count 5 one)))
@@ -85,7 +85,7 @@ bound : clause_slots
     (p.more_clauses (p.for_clause (at 0 (Local 0)) None false (Some (at 0 (Local 1))) one)
     (p.more_clauses (p.let_clause (at 0 (Local 2)) None one)
     (p.more_clauses (p.group_clause 0 (p.more_group_vars (p.computed_group_var (at 0 (Local 3)) one) (p.more_group_vars (p.computed_group_var (at 0 (Local 4)) one) p.no_group_vars)))
-    (p.more_clauses (p.keep_clause 0 one)
+    (p.more_clauses (p.where_clause 0 one)
     (p.more_clauses (p.count_clause 0 (at 0 (Local 5))) p.no_clauses)))))
     ≡ Local 0 ∷ Local 1 ∷ Local 2 ∷ Local 3 ∷ Local 4 ∷ Local 5 ∷ []
 bound = refl

@@ -171,7 +171,7 @@ module _ (width : ℕ) where
     clause-framed : (s : Scope) → InFrame width s.locals → (x : PlainClause Slot Target SeqType) → clause_bound s x ≡ true → Fits width (clause_binders x) → clause_bound (framed width s) x ≡ true
     clause-framed s f (p.for_clause variable t allowing_empty position source) h a = two (variable.name ∷ [] ++ any_name position) (binders source) (two (variable.name ∷ []) (any_name position) (slot-framed width s variable.name) (slot_any-framed width s position)) (tree-framed s f source) h a
     clause-framed s f (p.let_clause variable t value) h a = two (variable.name ∷ []) (binders value) (slot-framed width s variable.name) (tree-framed s f value) h a
-    clause-framed s f (p.keep_clause place test) h a = tree-framed s f test h a
+    clause-framed s f (p.where_clause place test) h a = tree-framed s f test h a
     clause-framed s f (p.group_clause place keys) h a = group_vars-framed s f keys h a
     clause-framed s f (p.order_clause place stable keys) h a = order_keys-framed s f keys h a
     clause-framed s f (p.count_clause place variable) h a = slot-framed width s variable.name h a

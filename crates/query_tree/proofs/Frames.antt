@@ -110,7 +110,7 @@ module _ (width : ℕ) where
       let own = fit_parts (variable.name ∷ []) (any_name position) (fit_parts (variable.name ∷ [] ++ any_name position) (binders source) a).0 in
       with_any-fits (with_slot s variable.name) position (with_slot-fits s variable.name f own.0) own.1
   after_clause-fits s (p.let_clause variable t value) f a = with_slot-fits s variable.name f (fit_parts (variable.name ∷ []) (binders value) a).0
-  after_clause-fits s (p.keep_clause place test) f a = f
+  after_clause-fits s (p.where_clause place test) f a = f
   after_clause-fits s (p.group_clause place keys) f a = after_keys-fits s keys f a
   after_clause-fits s (p.order_clause place stable keys) f a = f
   after_clause-fits s (p.count_clause place variable) f a = with_slot-fits s variable.name f a
@@ -152,7 +152,7 @@ module _ (width : ℕ) where
   pub after_clause-framed : (s : Scope) (c : PlainClause Slot Target SeqType) → after_clause (framed s) c ≡ framed (after_clause s c)
   after_clause-framed s (p.for_clause variable t allowing_empty position source) = with_any-framed (with_slot s variable.name) position
   after_clause-framed s (p.let_clause variable t value) = refl
-  after_clause-framed s (p.keep_clause place test) = refl
+  after_clause-framed s (p.where_clause place test) = refl
   after_clause-framed s (p.group_clause place keys) = after_keys-framed s keys
   after_clause-framed s (p.order_clause place stable keys) = refl
   after_clause-framed s (p.count_clause place variable) = refl

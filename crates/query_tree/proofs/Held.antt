@@ -135,7 +135,7 @@ module _ {V F T : Type 0} where
   pub clause-held : (x : PlainClause V F T) → IsHeld V F T (clause_subtrees x) (clause_children x)
   clause-held (p.for_clause variable t allowing_empty position source) = one source
   clause-held (p.let_clause variable t value) = one value
-  clause-held (p.keep_clause place test) = one test
+  clause-held (p.where_clause place test) = one test
   clause-held (p.group_clause place keys) = group_vars-held keys
   clause-held (p.order_clause place stable keys) = order_keys-held keys
   clause-held (p.count_clause place variable) = none

@@ -24,7 +24,7 @@ use Rattle.query_tree.specs.declared.names.Placed.{Placed}
 use Rattle.query_tree.specs.declared.operator.CompareOp.{CompareOp}
 use Rattle.query_tree.specs.declared.operator.Quantifier.{Quantifier}
 use Rattle.query_tree.specs.declared.operator.SumOp.{SumOp}
-use Rattle.query_tree.specs.Plain.{PlainClause, Form, Tree, clauses_of, trees_of, group_vars_of, order_keys_of, operands_of, terms_of, factors_of, binds_of, cases_of, type_cases_of, catches_of, pairs_of, steps_of, for_clause, let_clause, keep_clause, group_clause, order_clause, count_clause, comma_form, flwor_form, quant_form, switch_form, typeswitch_form, if_form, try_form, or_form, and_form, not_form, compare_form, concat_form, range_form, sum_form, product_form, instance_form, treat_form, castable_form, cast_form, sign_form, map_form, postfix_form, int_form, dec_form, text_form, true_form, false_form, null_form, var_form, context_form, paren_form, object_form, merge_form, array_form, call_form, tree_node, clause_layer, kind_layer, expr_layer, group_var_layer, order_key_layer, operand_layer, term_layer, factor_layer, bind_layer, case_layer, type_case_layer, catch_layer, pair_layer, step_layer, group_var_of, order_key_of, operand_of, term_of, factor_of, bind_of, case_of, type_case_of, catch_of, pair_of, step_of, clause_of, form_of, tree_of, maybe_tree_of}
+use Rattle.query_tree.specs.Plain.{PlainClause, Form, Tree, clauses_of, trees_of, group_vars_of, order_keys_of, operands_of, terms_of, factors_of, binds_of, cases_of, type_cases_of, catches_of, pairs_of, steps_of, for_clause, let_clause, where_clause, group_clause, order_clause, count_clause, comma_form, flwor_form, quant_form, switch_form, typeswitch_form, if_form, try_form, or_form, and_form, not_form, compare_form, concat_form, range_form, sum_form, product_form, instance_form, treat_form, castable_form, cast_form, sign_form, map_form, postfix_form, int_form, dec_form, text_form, true_form, false_form, null_form, var_form, context_form, paren_form, object_form, merge_form, array_form, call_form, tree_node, clause_layer, kind_layer, expr_layer, group_var_layer, order_key_layer, operand_layer, term_layer, factor_layer, bind_layer, case_layer, type_case_layer, catch_layer, pair_layer, step_layer, group_var_of, order_key_of, operand_of, term_of, factor_of, bind_of, case_of, type_case_of, catch_of, pair_of, step_of, clause_of, form_of, tree_of, maybe_tree_of}
 use Rattle.query_tree.specs.declared.clause.GroupVar.TheVariants as group_var
 use Rattle.query_tree.specs.declared.part.Pair.TheVariants as pair
 use Rattle.query_tree.specs.declared.step.Lookup.TheVariants as lookup
@@ -59,9 +59,9 @@ module _ (V F T : Type 0) where
   unfolding clause_of form_of tree_of
   clause_of-Let variable' of' value' = clause_fold V F T (PlainClause V F T) (Form V F T) (Tree V F T) (clause_layer V F T) (kind_layer V F T) (expr_layer V F T) (clause.Let variable' of' value') _ (clause.outs-Let variable' of' value')
 
-  pub clause_of-Keep : (place' : ℕ) (test' : Expr V F T) → clause_of V F T (clause.Keep place' test') ≡ keep_clause place' (tree_of V F T test')
+  pub clause_of-Where : (place' : ℕ) (test' : Expr V F T) → clause_of V F T (clause.Where place' test') ≡ where_clause place' (tree_of V F T test')
   unfolding clause_of form_of tree_of
-  clause_of-Keep place' test' = clause_fold V F T (PlainClause V F T) (Form V F T) (Tree V F T) (clause_layer V F T) (kind_layer V F T) (expr_layer V F T) (clause.Keep place' test') _ (clause.outs-Keep place' test')
+  clause_of-Where place' test' = clause_fold V F T (PlainClause V F T) (Form V F T) (Tree V F T) (clause_layer V F T) (kind_layer V F T) (expr_layer V F T) (clause.Where place' test') _ (clause.outs-Where place' test')
 
   pub clause_of-Group : (place' : ℕ) (keys' : Vec (GroupVar V (Expr V F T)) Global) → clause_of V F T (clause.Group place' keys') ≡ group_clause place' (group_vars_of V F T (map (group_var_of V F T) keys'.items))
   unfolding clause_of form_of tree_of
@@ -226,4 +226,4 @@ module _ (V F T : Type 0) where
   unfolding clause_of form_of tree_of
   tree_of-made place' kind' = fold-roll-Expr V F T (PlainClause V F T) (Form V F T) (Tree V F T) (clause_layer V F T) (kind_layer V F T) (expr_layer V F T) (record { place = place'; kind = kind' })
 
-pub ruleset layers = (clause_of-For, clause_of-Let, clause_of-Keep, clause_of-Group, clause_of-Order, clause_of-Count, form_of-Comma, form_of-Flwor, form_of-Quant, form_of-Switch, form_of-Typeswitch, form_of-If, form_of-Try, form_of-Or, form_of-And, form_of-Not, form_of-Compare, form_of-Concat, form_of-Range, form_of-Sum, form_of-Product, form_of-Instance, form_of-Treat, form_of-Castable, form_of-Cast, form_of-Sign, form_of-Map, form_of-Postfix, form_of-Int, form_of-Dec, form_of-Text, form_of-True, form_of-False, form_of-Null, form_of-Var, form_of-Context, form_of-Paren, form_of-Object, form_of-Merge, form_of-Array, form_of-Call, tree_of-out, tree_of-made)
+pub ruleset layers = (clause_of-For, clause_of-Let, clause_of-Where, clause_of-Group, clause_of-Order, clause_of-Count, form_of-Comma, form_of-Flwor, form_of-Quant, form_of-Switch, form_of-Typeswitch, form_of-If, form_of-Try, form_of-Or, form_of-And, form_of-Not, form_of-Compare, form_of-Concat, form_of-Range, form_of-Sum, form_of-Product, form_of-Instance, form_of-Treat, form_of-Castable, form_of-Cast, form_of-Sign, form_of-Map, form_of-Postfix, form_of-Int, form_of-Dec, form_of-Text, form_of-True, form_of-False, form_of-Null, form_of-Var, form_of-Context, form_of-Paren, form_of-Object, form_of-Merge, form_of-Array, form_of-Call, tree_of-out, tree_of-made)

@@ -55,7 +55,7 @@ of_order (p.more_order_keys (p.order_key_node e d g) ks) = omega (arith, of_orde
 of_clause : (c : PlainClause Name Name TypeName) → clause_nesting c ≡ greatest nesting (clause_children c)
 of_clause (p.for_clause variable t allowing_empty position source) = omega arith
 of_clause (p.let_clause variable t value) = omega arith
-of_clause (p.keep_clause place test) = omega arith
+of_clause (p.where_clause place test) = omega arith
 of_clause (p.group_clause place keys) = of_group keys
 of_clause (p.order_clause place stable keys) = of_order keys
 of_clause (p.count_clause place variable) = refl

@@ -28,7 +28,7 @@ module _ {S V F T : Type 0} (enter : S → V → S) where
   clause-entered : (s : S) (vs : List V) (c : PlainClause V F T) → fold enter s (clause_scope entered_last unnumbered vs tt c) ≡ clause_scope (entered enter) unnumbered (fold enter s vs) tt c
   clause-entered s vs (p.for_clause variable t allowing_empty position source) = any-entered enter s (entered_last vs tt variable.name) position ∙ ap (λ t. any_scope (entered enter) t tt position) (last-entered enter s vs variable.name)
   clause-entered s vs (p.let_clause variable t value) = last-entered enter s vs variable.name
-  clause-entered s vs (p.keep_clause place test) = refl
+  clause-entered s vs (p.where_clause place test) = refl
   clause-entered s vs (p.group_clause place keys) = keys-entered s vs keys
   clause-entered s vs (p.order_clause place stable keys) = refl
   clause-entered s vs (p.count_clause place variable) = last-entered enter s vs variable.name

@@ -142,7 +142,7 @@ abbrev mutual
   clause_binders (p.for_clause variable t allowing_empty position source) =
       variable.name ∷ any_name position ++ binders source
   clause_binders (p.let_clause variable t value) = variable.name ∷ binders value
-  clause_binders (p.keep_clause place test) = binders test
+  clause_binders (p.where_clause place test) = binders test
   clause_binders (p.group_clause place keys) = group_vars_binders keys
   clause_binders (p.order_clause place stable keys) = order_keys_binders keys
   clause_binders (p.count_clause place variable) = variable.name ∷ []

@@ -174,7 +174,7 @@ abbrev mutual
   clause_bound s (p.for_clause variable t allowing_empty position source) =
       may_bind s variable.name && may_bind_any s position && is_bound s source
   clause_bound s (p.let_clause variable t value) = may_bind s variable.name && is_bound s value
-  clause_bound s (p.keep_clause place test) = is_bound s test
+  clause_bound s (p.where_clause place test) = is_bound s test
   clause_bound s (p.group_clause place keys) = group_vars_bound s keys
   clause_bound s (p.order_clause place stable keys) = order_keys_bound s keys
   clause_bound s (p.count_clause place variable) = may_bind s variable.name

@@ -138,7 +138,7 @@ abbrev mutual
   pub clause_nesting : {V F T : Type 0} → PlainClause V F T → ℕ
   clause_nesting (p.for_clause variable t allowing_empty position source) = nesting source
   clause_nesting (p.let_clause variable t value) = nesting value
-  clause_nesting (p.keep_clause place test) = nesting test
+  clause_nesting (p.where_clause place test) = nesting test
   clause_nesting (p.group_clause place keys) = group_vars_nesting keys
   clause_nesting (p.order_clause place stable keys) = order_keys_nesting keys
   clause_nesting (p.count_clause place variable) = 0

@@ -42,7 +42,7 @@ mutual
         → (at : Option (Placed V)) → (source : Tree V F T) → PlainClause V F T
     let_clause : (variable : Placed V) → (of : Option (Placed T)) → (value : Tree V F T)
         → PlainClause V F T
-    keep_clause : (place : ℕ) → (test : Tree V F T) → PlainClause V F T
+    where_clause : (place : ℕ) → (test : Tree V F T) → PlainClause V F T
     group_clause : (place : ℕ) → (keys : PlainGroupVars V F T) → PlainClause V F T
     order_clause : (place : ℕ) → (stable : Bool) → (keys : PlainOrderKeys V F T) → PlainClause V F T
     count_clause : (place : ℕ) → (variable : Placed V) → PlainClause V F T
@@ -349,7 +349,7 @@ module _ (V F T : Type 0) where
   clause_layer (node.For variable' of' allowing_empty' at' source') =
       for_clause variable' of' allowing_empty' at' source'
   clause_layer (node.Let variable' of' value') = let_clause variable' of' value'
-  clause_layer (node.Keep place' test') = keep_clause place' test'
+  clause_layer (node.Where place' test') = where_clause place' test'
   clause_layer (node.Group place' keys') =
       group_clause place' (group_vars_of (map group_var_layer keys'.items))
   clause_layer (node.Order place' stable' keys') =

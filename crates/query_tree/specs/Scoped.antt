@@ -30,7 +30,7 @@ abbrev pub clause_scope : {S N V F T : Type 0} → (S → N → V → S) → (N 
 clause_scope enter past s n (p.for_clause variable t allowing_empty position source) =
     any_scope enter (enter s n variable.name) (past n (variable.name ∷ [])) position
 clause_scope enter past s n (p.let_clause variable t value) = enter s n variable.name
-clause_scope enter past s n (p.keep_clause place test) = s
+clause_scope enter past s n (p.where_clause place test) = s
 clause_scope enter past s n (p.group_clause place keys) = keys_scope enter past s n keys
 clause_scope enter past s n (p.order_clause place stable keys) = s
 clause_scope enter past s n (p.count_clause place variable) = enter s n variable.name

@@ -105,7 +105,7 @@ steps_children (p.more_steps x xs) = step_children x ++ steps_children xs
 abbrev pub clause_children : {V F T : Type 0} → PlainClause V F T → List (Tree V F T)
 clause_children (p.for_clause variable t allowing_empty position source) = source ∷ []
 clause_children (p.let_clause variable t value) = value ∷ []
-clause_children (p.keep_clause place test) = test ∷ []
+clause_children (p.where_clause place test) = test ∷ []
 clause_children (p.group_clause place keys) = group_vars_children keys
 clause_children (p.order_clause place stable keys) = order_keys_children keys
 clause_children (p.count_clause place variable) = []
@@ -204,7 +204,7 @@ abbrev mutual
   pub clause_subtrees : {V F T : Type 0} → PlainClause V F T → List (Tree V F T)
   clause_subtrees (p.for_clause variable t allowing_empty position source) = subtrees source
   clause_subtrees (p.let_clause variable t value) = subtrees value
-  clause_subtrees (p.keep_clause place test) = subtrees test
+  clause_subtrees (p.where_clause place test) = subtrees test
   clause_subtrees (p.group_clause place keys) = group_vars_subtrees keys
   clause_subtrees (p.order_clause place stable keys) = order_keys_subtrees keys
   clause_subtrees (p.count_clause place variable) = []

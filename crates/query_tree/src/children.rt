@@ -246,7 +246,7 @@ impl Holds for BoundClause {
         match self {
             Clause::For { source, .. } => push(source, stack),
             Clause::Let { value, .. } => push(value, stack),
-            Clause::Keep { test, .. } => push(test, stack),
+            Clause::Where { test, .. } => push(test, stack),
             Clause::Group { keys, .. } => push_all(keys, stack),
             Clause::Order { keys, .. } => push_all(keys, stack),
             Clause::Count { .. } => Ok(()),

@@ -22,7 +22,7 @@ pub enum Clause<V, F, T> {
         value: Expr<V, F, T>,
     },
     /// `where e`
-    Keep {
+    Where {
         place: u32,
         test: Expr<V, F, T>,
     },

@@ -51,7 +51,7 @@ fn push_clause(clause: &BoundClause, slots: &mut Vec<Slot>) -> Result<(), NoMemo
             Ok(())
         }
         Clause::Group { keys, .. } => push_keys(keys, slots),
-        Clause::Keep { .. } | Clause::Order { .. } => Ok(()),
+        Clause::Where { .. } | Clause::Order { .. } => Ok(()),
     }
 }
 

@@ -166,7 +166,7 @@ at_most : (act : Action) (name : List ℕ) (w : World) (o : Option (List ℕ)) (
     → OpenedAtMost (length (cond (is_some o) (name ∷ []) [])) before after × MissedAtMost (length (cond (not (is_some o)) (name ∷ []) [])) before after → SearchedSome search before after
 at_most act name w None search before after is h = subst (λ s. SearchedSome s before after) (sym is) h
 at_most act name w (Some query) search before after (front, f, e) h =
-    subst (λ s. SearchedSome s before after) (sym e) (omega (arith, h.0), λ none. h.1 refl)
+    subst (λ s. SearchedSome s before after) (sym e) (omega (arith, h.0), omega (arith, h.1))
 
 pub searched_at_most : (world : Option World) (act : Action) (name : List ℕ) (before after : InputCounts)
     → IfSome world (λ w. SearchedSome (search_of_name w name) before after) → OfFiles world act name (λ search. SearchedSome search before after)
@@ -181,7 +181,7 @@ behind_query (Ok x) name search before mid after falls one h =
       subst (λ n. OpenedJust n before after) first (opened_then 1 (length search.files) before mid after falls one.0 h.0),
       subst (λ n. MissedJust n before after) none (missed_then 0 (length search.missing) before mid after falls one.1 h.1),
     )
-behind_query (Err stop) name search before mid after falls one h = (omega (arith, one.0, h.0), λ none. h.1 none ∙ one.1.0 refl)
+behind_query (Err stop) name search before mid after falls one h = (omega (arith, one.0, h.0), omega (arith, one.1, h.1))
 
 pub searched_query : {T : Type 0} (result : Result T Stop) (world : Option World) (act : Action) (name query : List ℕ) (before mid after : InputCounts)
     → NoCountFalls mid after → IfSome world (λ w. Some query ≡ file_of w name) → IfSome world (λ w. SearchedAll (search_of_name w name) before mid)

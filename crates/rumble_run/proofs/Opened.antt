@@ -58,15 +58,16 @@ opened_then m n start now after falls h g = (
 )
 
 pub missed_then : (m n : ℕ) (start now after : InputCounts) → NoCountFalls now after → MissedJust m start now → MissedJust n now after → MissedJust (m + n) start after
-missed_then m n start now after falls h g = (λ none. g.0 (omega (arith, none)) ∙ h.0 (omega (arith, none)), by h.1 g.1)
-  where
-    by : (start.misses + m ≤ now.misses) ⊎ (2 ^ 64 - 1 ≤ now.misses) → (now.misses + n ≤ after.misses) ⊎ (2 ^ 64 - 1 ≤ after.misses) → (start.misses + (m + n) ≤ after.misses) ⊎ (2 ^ 64 - 1 ≤ after.misses)
-    by (inl early) (inl late) = inl (omega (arith, early, late))
-    by (inl early) (inr full) = inr full
-    by (inr full) late = inr (omega (arith, full, falls.misses))
+missed_then m n start now after falls h g = (
+  omega (arith, h.0, g.0),
+  λ small.
+      let last = g.1 small in
+      let mid = h.1 (omega (arith, falls.misses, small)) in
+      omega (arith, last, mid),
+)
 
 pub none_missed : (counts : InputCounts) → MissedJust 0 counts counts
-none_missed counts = (λ e. refl, inl (omega arith))
+none_missed counts = (omega arith, λ h. omega arith)
 
 -- so many were opened and missing, and those behind are still to be looked for, of all
 pub record Opening (world : World) (names all : List (List ℕ)) (start now : InputCounts) : Type 0 where
@@ -102,16 +103,14 @@ opened_next world name names all start now after falls h g = record {
 pub stopped_within : (world : World) (names all : List (List ℕ)) (start now : InputCounts) → Opening world names all start now
     → SearchedSome (search_among world all) start now
 stopped_within world names all start now h =
-    (omega (arith, h.total, h.opened.0), λ none. h.missed.0 (omega (arith, none, h.whole)))
+    (omega (arith, h.total, h.opened.0), omega (arith, h.whole, h.missed.0))
 
 pub stopped_next : (world : World) (name : List ℕ) (names all : List (List ℕ)) (start now after : InputCounts)
     → Opening world (name ∷ names) all start now → SearchedSome (search_of_name world name) now after
     → SearchedSome (search_among world all) start after
 stopped_next world name names all start now after h g = (
   omega (arith, h.total, left_next world name names, h.opened.0, g.0),
-  λ none.
-      let some = lacking_next world name names in
-      g.1 (omega (arith, none, h.whole, some)) ∙ h.missed.0 (omega (arith, none, h.whole)),
+  omega (arith, h.whole, lacking_next world name names, h.missed.0, g.1),
 )
 
 pub all_opened : (world : World) (all : List (List ℕ)) (start now : InputCounts) → Opening world [] all start now → SearchedAll (search_among world all) start now
@@ -162,4 +161,4 @@ opening_at world names all rest name start now next n falls h g =
 -- ---- a name that is looked for, in a told world
 
 pub nothing_some : (search : Search) (counts : InputCounts) → SearchedSome search counts counts
-nothing_some search counts = (omega arith, λ e. refl)
+nothing_some search counts = (omega arith, omega arith)

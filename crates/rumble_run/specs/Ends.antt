@@ -108,19 +108,18 @@ OpenedBy n ReadFault before after = OpenedAtMost n before after
 OpenedBy n NoMemory before after = OpenedAtMost n before after
 OpenedBy n _ before after = OpenedJust n before after
 
--- so many names were missing: where it is none their count stays, and else it rises by as many at
--- least, or stands at its last value
+-- so many names were missing, or fewer
+abbrev pub MissedAtMost : ℕ → InputCounts → InputCounts → Type 0
+MissedAtMost n before after = after.misses ≤ before.misses + n
+
+-- so many names were missing
 abbrev pub MissedJust : ℕ → InputCounts → InputCounts → Type 0
 MissedJust n before after =
-    (n ≡ 0 → after.misses ≡ before.misses)
-    × ((before.misses + n ≤ after.misses) ⊎ (2 ^ 64 - 1 ≤ after.misses))
+    MissedAtMost n before after
+    × (after.misses < 2 ^ 64 - 1 → after.misses ≡ before.misses + n)
 
--- of so many names some may have been missing
-abbrev pub MissedAtMost : ℕ → InputCounts → InputCounts → Type 0
-MissedAtMost n before after = n ≡ 0 → after.misses ≡ before.misses
-
--- of so many names that are missing each was looked for; or, where reading failed or memory was
--- short, some were
+-- of so many names that are missing, each was looked for once; or, where reading failed or memory
+-- was short, some were
 abbrev pub MissedBy : ℕ → Status → InputCounts → InputCounts → Type 0
 MissedBy n ReadFault before after = MissedAtMost n before after
 MissedBy n NoMemory before after = MissedAtMost n before after
@@ -130,9 +129,9 @@ MissedBy n _ before after = MissedJust n before after
 abbrev pub FaultsRose : InputCounts → InputCounts → Type 0
 FaultsRose before after = Rose before.faults after.faults
 
--- there was no file of a name
+-- there was no file of one name
 abbrev pub MissesRose : InputCounts → InputCounts → Type 0
-MissesRose before after = Rose before.misses after.misses
+MissesRose before after = RoseByOne before.misses after.misses
 
 -- no file was looked for: each count is what it was
 abbrev pub LooksForNone : InputCounts → InputCounts → Type 0
@@ -177,7 +176,8 @@ OpensByStatus WriteFault before after = OpensRose before after
 OpensByStatus Refused before after =
     RoseByOne before.opened after.opened × (after.misses ≡ before.misses)
 OpensByStatus Usage before after = LooksForNone before after
-OpensByStatus NoQuery before after = (after.opened ≡ before.opened) × MissesRose before after
+OpensByStatus NoQuery before after =
+    (after.opened ≡ before.opened) × RoseByOne before.misses after.misses
 OpensByStatus _ before after = Unit {0}
 
 -- the same by the command: a trial looks for no file at all

@@ -197,7 +197,7 @@ after_keys-agrees stream n a (p.more_group_vars k ks) = after_keys-agrees stream
 pub after_clause-agrees : {s : Names} {v : View} {c : Scope} (n : ℕ) → Agrees s v c → (x : PlainClause (List ℕ) (List ℕ) TypeName) → Agrees (Compiling.after_clause s n x) (seeing v (Views.after_clause v.variables x)) (Bound.after_clause c (compiled_clause s n x))
 after_clause-agrees n a (p.for_clause variable t allowing_empty position source) = with_any-agrees (n + 1) (with_slot-agrees n variable.name a) position
 after_clause-agrees n a (p.let_clause variable t value) = with_slot-agrees n variable.name a
-after_clause-agrees n a (p.keep_clause place test) = a
+after_clause-agrees n a (p.where_clause place test) = a
 after_clause-agrees {s} n a (p.group_clause place keys) = after_keys-agrees s n a keys
 after_clause-agrees n a (p.order_clause place stable keys) = a
 after_clause-agrees n a (p.count_clause place variable) = with_slot-agrees n variable.name a
@@ -240,7 +240,7 @@ pub within-clause : {names seen : List (List ℕ)} → Within names seen → (x 
 within-clause w (p.for_clause variable t allowing_empty None source) = within-more variable.name w
 within-clause w (p.for_clause variable t allowing_empty (Some position) source) = within-more position.name (within-more variable.name w)
 within-clause w (p.let_clause variable t value) = within-more variable.name w
-within-clause w (p.keep_clause place test) = w
+within-clause w (p.where_clause place test) = w
 within-clause w (p.group_clause place keys) = within-keys w keys
 within-clause w (p.order_clause place stable keys) = w
 within-clause w (p.count_clause place variable) = within-more variable.name w

@@ -150,7 +150,7 @@ mutual
   clause-nested : (s : Names) (n : ℕ) (x : PlainClause (List ℕ) (List ℕ) TypeName) → nests.clause_nesting (compiled_clause s n x) ≡ nests.clause_nesting x
   clause-nested s n (p.for_clause variable t allowing_empty position source) = tree-nested s (past (n + 1) (Binders.any_name position)) source
   clause-nested s n (p.let_clause variable t value) = tree-nested s (n + 1) value
-  clause-nested s n (p.keep_clause place test) = tree-nested s n test
+  clause-nested s n (p.where_clause place test) = tree-nested s n test
   clause-nested s n (p.group_clause place keys) = group_vars-nested s s n keys
   clause-nested s n (p.order_clause place stable keys) = order_keys-nested s n keys
   clause-nested s n (p.count_clause place variable) = refl

@@ -193,7 +193,7 @@ mutual
   clause-counted : (s : Names) (n : ℕ) (x : PlainClause (List ℕ) (List ℕ) TypeName) → Counted n (Binders.clause_binders x) (Binders.clause_binders (compiled_clause s n x))
   clause-counted s n (p.for_clause variable t allowing_empty position source) = more variable.name (two (any-counted (n + 1) position) (tree-counted s (past (n + 1) (Binders.any_name position)) source))
   clause-counted s n (p.let_clause variable t value) = more variable.name (tree-counted s (n + 1) value)
-  clause-counted s n (p.keep_clause place test) = tree-counted s n test
+  clause-counted s n (p.where_clause place test) = tree-counted s n test
   clause-counted s n (p.group_clause place keys) = group_vars-counted s s n keys
   clause-counted s n (p.order_clause place stable keys) = order_keys-counted s n keys
   clause-counted s n (p.count_clause place variable) = more variable.name (none (n + 1))

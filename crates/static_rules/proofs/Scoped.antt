@@ -149,7 +149,7 @@ mutual
   clause-passes : (n : ℕ) {s : Names} {names : List (List ℕ)} {v : View} {c : Scope} → Agrees s v c → Within names v.variables → (x : PlainClause (List ℕ) (List ℕ) TypeName) → Clean (clause_mentions v names x) → clause_bound c (compiled_clause s n x) ≡ true
   clause-passes n {v = v} a w (p.for_clause variable t allowing_empty position source) h = both_true (both_true (slot_bound n a) (any_bound (n + 1) a position)) (tree-passes (past (n + 1) (Binders.any_name position)) a source (clean_parts (type_mentions t ++ position_mentions variable position) (mentions v source) h).1)
   clause-passes n {v = v} a w (p.let_clause variable t value) h = both_true (slot_bound n a) (tree-passes (n + 1) a value (clean_parts (type_mentions t) (mentions v value) h).1)
-  clause-passes n a w (p.keep_clause place test) h = tree-passes n a test h
+  clause-passes n a w (p.where_clause place test) h = tree-passes n a test h
   clause-passes n a w (p.group_clause place keys) h = group_vars-passes n a (stream_reads a w) keys h
   clause-passes n a w (p.order_clause place stable keys) h = order_keys-passes n a keys h
   clause-passes n a w (p.count_clause place variable) h = slot_bound n a

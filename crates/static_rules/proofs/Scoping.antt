@@ -122,7 +122,7 @@ pub extends-clause : (s : Names) (n : ℕ) (c : PlainClause (List ℕ) (List ℕ
 extends-clause s n (p.for_clause variable t allowing_empty None source) = extends-one s variable.name (Local n)
 extends-clause s n (p.for_clause variable t allowing_empty (Some x) source) = extends-trans s (with_slot s variable.name (Local n)) (with_slot (with_slot s variable.name (Local n)) x.name (Local (n + 1))) (extends-one s variable.name (Local n)) (extends-one (with_slot s variable.name (Local n)) x.name (Local (n + 1)))
 extends-clause s n (p.let_clause variable t value) = extends-one s variable.name (Local n)
-extends-clause s n (p.keep_clause place test) = extends-none s
+extends-clause s n (p.where_clause place test) = extends-none s
 extends-clause s n (p.group_clause place keys) = extends-keys s n keys
 extends-clause s n (p.order_clause place stable keys) = extends-none s
 extends-clause s n (p.count_clause place variable) = extends-one s variable.name (Local n)
@@ -145,7 +145,7 @@ pub seen-clause : (s : Names) (n : ℕ) (c : PlainClause (List ℕ) (List ℕ) T
 seen-clause s n (p.for_clause variable t allowing_empty None source) = refl
 seen-clause s n (p.for_clause variable t allowing_empty (Some x) source) = refl
 seen-clause s n (p.let_clause variable t value) = refl
-seen-clause s n (p.keep_clause place test) = refl
+seen-clause s n (p.where_clause place test) = refl
 seen-clause s n (p.group_clause place keys) = seen-keys s n keys
 seen-clause s n (p.order_clause place stable keys) = refl
 seen-clause s n (p.count_clause place variable) = refl

@@ -36,7 +36,7 @@ stream-clause base s n (p.for_clause variable t allowing_empty (Some x) source) 
     stream-slot base (with_slot s variable.name (Local n)) x.name (Local (n + 1)) (longer-slot base s variable.name (Local n) h)
     ∙ ap (λ names. x.name ∷ names) (stream-slot base s variable.name (Local n) h)
 stream-clause base s n (p.let_clause variable t value) h = stream-slot base s variable.name (Local n) h
-stream-clause base s n (p.keep_clause place test) h = refl
+stream-clause base s n (p.where_clause place test) h = refl
 stream-clause base s n (p.group_clause place keys) h = stream-keys base s n keys h
 stream-clause base s n (p.order_clause place stable keys) h = refl
 stream-clause base s n (p.count_clause place variable) h = stream-slot base s variable.name (Local n) h

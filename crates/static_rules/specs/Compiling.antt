@@ -312,7 +312,7 @@ abbrev mutual
       (any_binding position (n + 1)) (compiled s (past (n + 1) (Binders.any_name position)) source)
   compiled_clause s n (p.let_clause variable t value) =
       p.let_clause (binding variable n) (option_map placed_type t) (compiled s (n + 1) value)
-  compiled_clause s n (p.keep_clause place test) = p.keep_clause place (compiled s n test)
+  compiled_clause s n (p.where_clause place test) = p.where_clause place (compiled s n test)
   compiled_clause s n (p.group_clause place keys) =
       p.group_clause place (compiled_group_vars s s n keys)
   compiled_clause s n (p.order_clause place stable keys) =

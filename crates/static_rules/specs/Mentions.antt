@@ -194,7 +194,7 @@ abbrev mutual
   clause_mentions v stream (p.for_clause variable t allowing_empty position source) =
       type_mentions t ++ position_mentions variable position ++ mentions v source
   clause_mentions v stream (p.let_clause variable t value) = type_mentions t ++ mentions v value
-  clause_mentions v stream (p.keep_clause place test) = mentions v test
+  clause_mentions v stream (p.where_clause place test) = mentions v test
   clause_mentions v stream (p.group_clause place keys) = group_vars_mentions v stream keys
   clause_mentions v stream (p.order_clause place stable keys) = order_keys_mentions v keys
   clause_mentions v stream (p.count_clause place variable) = []

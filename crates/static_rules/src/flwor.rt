@@ -1,7 +1,7 @@
 //! FLWOR expressions and their clauses.
 
 ghost use Rattle.std.specs.Prelude.{◌≡◌, ◌≤◌, ◌+◌, ◌∷◌, ◌++◌, true, option_map, length, IfOk, OnOk};
-ghost use Rattle.query_tree.specs.Plain.{flwor_form, for_clause, let_clause, keep_clause, group_clause, order_clause, count_clause, stream_group_var, computed_group_var};
+ghost use Rattle.query_tree.specs.Plain.{flwor_form, for_clause, let_clause, where_clause, group_clause, order_clause, count_clause, stream_group_var, computed_group_var};
 ghost use Rattle.static_rules.specs.Mentions.{type_mentions, mentions};
 ghost use Rattle.query_tree.specs.Binders.{binders};
 ghost use Rattle.static_rules.specs.Walks.{view_of};
@@ -133,7 +133,7 @@ fn clause<'q>(
             of,
             value,
         } => let_be(alloc, walk, item, variable, of, value),
-        Clause::Keep { place, test } => keep(alloc, walk, item, *place, test),
+        Clause::Where { place, test } => keep(alloc, walk, item, *place, test),
         Clause::Group { place, keys } => group(alloc, walk, item, base, *place, keys),
         Clause::Order {
             place,
@@ -254,12 +254,12 @@ fn keep<'q>(
         (λ t.
         bound_clause t
         ≡ compiled_clause walk.old.names walk.old.number
-        (keep_clause place (named_tree test.now))) }
+        (where_clause place (named_tree test.now))) }
     ensures walk { OnOk result
-        (walk.new ≡ behind_clause walk.old item 0 (keep_clause place (named_tree test.now))) }
+        (walk.new ≡ behind_clause walk.old item 0 (where_clause place (named_tree test.now))) }
 {
     let test = expr(alloc, walk, item, test)?;
-    Ok(Clause::Keep { place, test })
+    Ok(Clause::Where { place, test })
 }
 
 #[cycle(walk)]

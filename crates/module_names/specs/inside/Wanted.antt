@@ -1,6 +1,6 @@
 -- What there is of the name that loading wants next.
 use Rattle.std.specs.Prelude.{◌≡◌, ◌+◌, ◌≤◌, ℕ, List, None, Some, Result, Ok, Err}
-use Rattle.outside.specs.Counted.{Rises, RoseByOne}
+use Rattle.outside.specs.Counted.{RoseByOne}
 use Rattle.outside.specs.Opens.{InputCounts}
 use Rattle.line_pieces.specs.Faults.{CausedBy}
 use Rattle.line_pieces.specs.declared.fault.PieceFault.{PieceFault}
@@ -29,9 +29,9 @@ IsFound reads w name (Refused code place contents) =
 IsFound reads w name (Read source) =
     (file_of w name ≡ Some source.rest.contents) × IsKept reads source.rest.contents source
 
--- the misses rise where there is no file, and else stay
+-- one more file was missing where there is none, and else none
 abbrev pub MissesFound : {T : Type 0} → Reader T → Result (Found T) PieceFault → ℕ → ℕ → Type 0
-MissesFound reads (Ok Missing) before after = Rises before after
+MissesFound reads (Ok Missing) before after = RoseByOne before after
 MissesFound reads (Ok (Refused code place contents)) before after =
     OtherCause reads code × (after ≡ before)
 MissesFound reads _ before after = after ≡ before

@@ -1,6 +1,6 @@
 -- What a read through the inputs leaves.
 use Rattle.std.specs.Prelude.{◌≡◌, ◌≤◌, ◌+◌, ℕ, List, [], ◌∷◌, length, Option, None, Some, Result, Ok, Err}
-use Rattle.outside.specs.Counted.{Rose, Rises, RoseByOne}
+use Rattle.outside.specs.Counted.{Rose, RoseByOne}
 use Rattle.outside.specs.Opens.{InputCounts}
 use Rattle.outside.specs.World.{World}
 use Rattle.rumble_run.specs.Ends.{NoCountFalls, IsBalanced, OpenedAtMost, OpenedJust, MissedAtMost, MissedJust}
@@ -20,9 +20,9 @@ pub record Leaves {T : Type 0} (result : Result T Stop) (before after : InputCou
   pub rises : NoCountFalls before after
   pub balanced : IsBalanced before after
 
--- the misses rise where there was no such file, and else stay
+-- one more file was missing where there was no such file, and else none
 abbrev pub MissedOne : {T : Type 0} → Result (Option T) Stop → ℕ → ℕ → Type 0
-MissedOne (Ok None) before after = Rises before after
+MissedOne (Ok None) before after = RoseByOne before after
 MissedOne _ before after = after ≡ before
 
 -- a file was opened where its bytes were read, and none where there was no such file
