@@ -81,7 +81,7 @@ pub trait InputFile {
 }
 
 /// Files by their names.
-pub trait Inputs {
+pub trait Inputs: Sync {
     type File: InputFile + Send + Sync + Drop;
 
     /// Which files there are, where this is told.
