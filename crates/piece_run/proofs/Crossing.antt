@@ -25,9 +25,7 @@ use Rattle.query_tree.proofs.clause.GroupVar.TheSendSync as group_var
 use Rattle.query_tree.proofs.names.Placed.TheSendSync as placed
 use Rattle.seq_types.proofs.types.SeqType.TheSendSync as types
 use Rattle.query_tree.proofs.Sharing.{shared_compiled, shared_tree, shared_expr}
-use Rattle.line_pieces.proofs.reader.PieceReader.TheSendSync as pieces
 use Rattle.piece_run.specs.contracts.came.CameOut as came
-use Rattle.piece_run.specs.contracts.seat.Seat as seat
 use Rattle.piece_run.specs.contracts.stage.StageEnd as end
 use Rattle.piece_run.specs.contracts.stage.DrivenStage as stage
 use Rattle.piece_run.specs.contracts.job.DrivenJob as job
@@ -75,9 +73,6 @@ stage_field_seen : (a : Ref.NamedLft) (F : RattleType) → IsSync F → IsSync (
 stage_field_seen a F f =
     search (parts, slot.the_sync, slot.the_field_sync, evaluator.the_sync, evaluator.the_field_sync, binding.the_sync, binding.the_field_sync, cut.the_sync, end_field_seen, seen, value_seen, library_seen, shared_compiled, shared_clause) depth 20
 
-pub job_seen : (a : Ref.NamedLft) (F S I : RattleType) → IsSync F → IsSync S → IsSync I
-    → IsSync (job.the_row a F S I)
-job_seen a F S I f s i = search (parts, stage_seen, stage_field_seen) depth 20
-
-pub seat_sent : (S : RattleType) → IsSend S → IsSend (seat.the_row S)
-seat_sent S file = search (parts, pieces.the_send) depth 20
+pub job_seen : (a t : Ref.NamedLft) (F T S I : RattleType) → IsSync F → IsSync T → IsSync S
+    → IsSync I → IsSync (job.the_row a t F T S I)
+job_seen a t F T S I f told s i = search (parts, stage_seen, stage_field_seen) depth 20

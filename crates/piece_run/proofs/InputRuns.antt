@@ -19,7 +19,8 @@ use Rattle.piece_run.specs.Driven.{MayBegin, items_stage, stage_of}
 use Rattle.piece_run.specs.Gathering.{OnPieces, lines_before, numbered_piece}
 use Rattle.piece_run.specs.Inputs.{RunsAreWhole}
 use Rattle.piece_run.specs.Outcomes.{CameIs, IsOutcomeOf}
-use Rattle.piece_run.specs.Seats.{first_line, IsOfLines, IsKeyedPiece}
+use Rattle.piece_seats.specs.Seats.{first_line}
+use Rattle.piece_run.specs.Seats.{IsOfLines, IsKeyedPiece}
 use Rattle.piece_run.specs.Staged.{last_step}
 use Rattle.piece_run.specs.declared.came.CameOut.{CameOut}
 use Rattle.piece_run.specs.declared.stage.DrivenStage.{DrivenStage}

@@ -9,9 +9,7 @@ mod Driving
 mod Bridges
 mod DriverTells
 mod EndFalls
-mod Sums
 mod ToldBelow
-mod Texts
 mod Within
 pub mod WholeRuns
 pub mod LinesMeant

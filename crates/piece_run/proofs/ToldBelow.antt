@@ -21,7 +21,8 @@ use Rattle.clause_stages.specs.Drivers.{numbered_lines}
 use Rattle.piece_run.specs.Driven.{MayBegin, stage_of}
 use Rattle.piece_run.specs.Outcomes.{CameIs, IsOutcomeOf}
 use Rattle.piece_run.specs.Staged.{last_step}
-use Rattle.piece_run.specs.Seats.{first_line, IsOfLines}
+use Rattle.piece_seats.specs.Seats.{first_line}
+use Rattle.piece_run.specs.Seats.{IsOfLines}
 use Rattle.piece_run.specs.declared.came.CameOut.{CameOut}
 use Rattle.piece_run.specs.declared.stage.DrivenStage.{DrivenStage}
 

@@ -12,12 +12,13 @@ use Rattle.piece_board.specs.Whole.{IsWhole}
 use Rattle.piece_outcomes.specs.Came.{Came, Seen}
 use Rattle.piece_outcomes.specs.Counting.{told_step}
 use Rattle.piece_outcomes.specs.declared.outcome.Counted.{Counted}
+use Rattle.piece_seats.specs.Seats.{first_line}
 use Rattle.piece_run.specs.Driven.{MayBegin, stage_of}
 use Rattle.piece_run.specs.Ends.{end_step}
 use Rattle.piece_run.specs.Gathering.{OnPieces, IsWholeRun, lines_before, numbered_piece, whole_run}
 use Rattle.piece_run.specs.Meanings.{LinesFor, lines_run}
 use Rattle.piece_run.specs.Outcomes.{CameIs}
-use Rattle.piece_run.specs.Seats.{first_line, IsKeyedPiece}
+use Rattle.piece_run.specs.Seats.{IsKeyedPiece}
 use Rattle.piece_run.specs.Staged.{end_of, stage_inner, stage_environment, last_step}
 use Rattle.piece_run.specs.declared.came.CameOut.{CameOut}
 use Rattle.piece_run.specs.declared.stage.DrivenStage.{DrivenStage}

@@ -9,7 +9,6 @@ pub mod Staged
 pub mod HaveKeys
 pub mod Driven
 pub mod Seats
-pub mod Texts
 pub mod Gathering
 pub mod Meanings
 pub mod Inputs

@@ -1,26 +1,16 @@
--- What a worker holds, and what a stage makes of a piece that it reads.
-use Rattle.std.specs.Prelude.{map, ◌≡◌, ℕ, ◌+◌, List, sum_by, get_or, Option, IfSome}
+-- What a stage makes of a piece that a worker reads.
+use Rattle.std.specs.Prelude.{◌≡◌, ℕ, List, Option, IfSome}
 use Rattle.item_tree.specs.Datum.{Datum}
 use Rattle.item_reader.specs.Lines.{Line}
 use Rattle.line_pieces.specs.Pieces.{told_piece}
 use Rattle.clause_stages.specs.Drivers.{numbered_lines}
 use Rattle.piece_outcomes.specs.declared.outcome.Counted.{Counted}
+use Rattle.piece_seats.specs.Seats.{first_line}
 use Rattle.piece_run.specs.Driven.{MayBegin, stage_of}
 use Rattle.piece_run.specs.Outcomes.{CameIs, IsOutcomeOf}
 use Rattle.piece_run.specs.Staged.{EndKeyedBy, last_step}
 use Rattle.piece_run.specs.declared.came.CameOut.{CameOut}
 use Rattle.piece_run.specs.declared.stage.DrivenStage.{DrivenStage}
-use Rattle.piece_run.specs.declared.job.DrivenJob.{DrivenJob}
-use Rattle.piece_run.specs.declared.seat.Seat.{Seat}
-use Rattle.line_pieces.specs.Cuts.{HaveLengths}
-
--- the faults of all files
-abbrev pub all_faults : {S : Type 0} → (S → ℕ) → List S → ℕ
-all_faults faults files = sum_by faults files
-
--- the number of the first line of a piece, from 1, by how many lines stand before each piece
-abbrev pub first_line : List ℕ → ℕ → ℕ
-first_line before piece = get_or before piece 0 + 1
 
 -- what the stage makes of these lines, which are those of a piece
 abbrev pub IsOfLines : {F I : Type 0} → (I → List Datum → Type 0) → DrivenStage F → List Line
@@ -43,9 +33,3 @@ pub record IsKeyedPiece {F I : Type 0} (stands : I → List Datum → Type 0) (s
     (told : List (Option (List ℕ))) (piece limit : ℕ) (out : Counted (CameOut I)) : Type 0 where
   pub of_piece : IsOfPiece stands s told piece limit out
   pub keys : EndKeyedBy s.end out.outcome
-
--- a worker's files are those of the job
-abbrev pub HasFiles : {F S I : Type 0} → (S → Option (List ℕ)) → DrivenJob F S I → Seat S → Type 0
-HasFiles held j s =
-    HaveLengths j.stage.cut.now.lengths (map held s.files.items)
-    × (map held s.files.items ≡ map held j.files.now)

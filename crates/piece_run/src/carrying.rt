@@ -10,11 +10,12 @@ ghost use Rattle.piece_outcomes.specs.Orders.{IsWide};
 ghost use Rattle.piece_run.specs.Ordering.{IsOrderOutcomeOf};
 ghost use Rattle.piece_run.specs.Staged.{EndKeyedBy, stage_inner, stage_environment, last_step, tuples_stage, ordered_stage};
 
-use crate::came::{CameOut, ItemsKept};
+use crate::came::CameOut;
 use crate::stage::{DrivenStage, NarrowSteps, StageEnd};
 use clause_eval::Frame;
 use item_tree::NoMemory;
 use piece_outcomes::{Counted, OrderCounted};
+use piece_seats::ItemsKept;
 use query_meaning::{Env, EvalFault, Value};
 use query_tree::{BoundExpr, OrderKey};
 use std::alloc::Global;

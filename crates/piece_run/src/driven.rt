@@ -11,7 +11,7 @@ ghost use Rattle.piece_run.specs.Driven.{MayBegin, items_stage, stage_of};
 ghost use Rattle.piece_run.specs.Outcomes.{CameIs, IsOutcomeOf};
 ghost use Rattle.piece_run.specs.Staged.{EndKeyedBy, last_step};
 
-use crate::came::{CameOut, ItemsKept};
+use crate::came::CameOut;
 use crate::reading::read_items;
 use crate::stage::DrivenStage;
 use clause_eval::bind_items;
@@ -19,6 +19,7 @@ use item_reader::Reader;
 use item_tree::{Fault, Item, NoMemory};
 use line_pieces::Lines;
 use piece_outcomes::{Counted, Counts, MetFault, Outcome};
+use piece_seats::ItemsKept;
 use query_meaning::{Env, EvalFault, Value};
 use query_tree::BoundExpr;
 use std::alloc::Global;

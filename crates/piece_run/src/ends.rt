@@ -18,13 +18,14 @@ ghost use Rattle.piece_run.specs.Keying.{OutKeyedBy};
 ghost use Rattle.piece_run.specs.Outcomes.{CameIs, came_seen, IsOutcomeOf, passed, EndsAs};
 ghost use Rattle.piece_run.specs.Stages.{ends_in};
 
-use crate::came::{CameOut, ItemsKept};
+use crate::came::CameOut;
 use crate::counts::with_count;
 use crate::keying::{KeyedTuples, keyed_tuples};
 use crate::stage::NarrowSteps;
 use clause_eval::{Evaluator, Frame, Progress, Told};
 use item_tree::NoMemory;
 use piece_outcomes::{Counted, Outcome};
+use piece_seats::ItemsKept;
 use query_meaning::{Env, EvalFault, Value};
 use query_tree::{BoundExpr, GroupVar, Slot};
 use std::alloc::Global;

@@ -18,9 +18,10 @@ ghost use Rattle.piece_outcomes.specs.Orders as orders;
 ghost use Rattle.piece_run.specs.Outcomes.{CameIs};
 ghost use Rattle.piece_run.specs.Keying.{GatheredKeyedBy};
 
-use crate::came::{CameOut, ItemsKept};
+use crate::came::CameOut;
 use clause_eval::{BoundClause, Evaluator, Frame, numbered_rows, ordered_rows};
 use piece_outcomes::Gathered;
+use piece_seats::ItemsKept;
 use query_meaning::{Env, EvalFault, Value};
 use query_tree::{BoundExpr, GroupVar, OrderKey, Placed, Slot};
 use std::alloc::Global;

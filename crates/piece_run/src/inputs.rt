@@ -2,7 +2,7 @@
 
 ghost use Rattle.piece_run.specs.Inputs.{RunsAreWhole};
 
-use crate::came::ItemsKept;
+use piece_seats::ItemsKept;
 
 /// What workers give for all pieces of an input can be gathered; and where the files tell their
 /// bytes, what is gathered is what the stage makes of the lines of the input.

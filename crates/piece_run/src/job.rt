@@ -1,40 +1,44 @@
 //! A stage over the pieces of an input, as a job that workers run.
 
-ghost use Rattle.std.specs.Prelude.{◌≡◌, ◌+◌, map};
+ghost use Rattle.std.specs.Prelude.{◌+◌};
 
-use crate::came::{CameOut, ItemsKept};
-use crate::seat::Seat;
+use crate::came::CameOut;
 use crate::stage::DrivenStage;
 use outside::{Failed, InputFile};
 use piece_board::{Job, JobFault};
 use piece_outcomes::Counted;
+use piece_seats::{FilesTold, ItemsKept, Seat};
 use query_meaning::{Env, EvalFault, Value};
 use query_tree::BoundExpr;
 use std::alloc::Global;
 use std::marker::PhantomData;
 
-/// A stage that is run on the pieces of an input. Each worker has files of its own, which tell what
-/// these tell.
+/// A stage that is run on the pieces of an input. Each worker has the input's files open.
 #[derive(Drop)]
-pub struct DrivenJob<'a, F, S, I> {
+pub struct DrivenJob<'a, 't, F, T, S, I> {
     /// The stage.
     pub stage: DrivenStage<'a, F>,
-    /// The files of the input.
-    pub files: &'a [S],
+    /// What the files of the input tell.
+    pub told: &'t T,
+    /// The files that a worker has open.
+    pub files: PhantomData<S>,
     /// What is kept of items.
     pub kept: PhantomData<I>,
 }
 
 impl<
     'a,
+    't,
     F: for<'s, 'b> Fn(Global, &BoundExpr, &Env<'s, 'b>) -> Result<Value<'b>, EvalFault> + Sync,
+    T: FilesTold,
     S: InputFile + Send + Sync,
     I: ItemsKept + Send + Sync,
-> Job for DrivenJob<'a, F, S, I> {
-    ghost use Rattle.line_pieces.specs.Cuts.{pieces_of, HaveLengths};
+> Job for DrivenJob<'a, 't, F, T, S, I> {
+    ghost use Rattle.line_pieces.specs.Cuts.{pieces_of};
     ghost use Rattle.query_meaning.specs.inside.Evaluates.{Evaluates};
     ghost use Rattle.piece_outcomes.specs.Counting.{told_step};
-    ghost use Rattle.piece_run.specs.Seats.{all_faults, IsKeyedPiece};
+    ghost use Rattle.piece_seats.specs.Seats.{all_faults, HoldsFiles};
+    ghost use Rattle.piece_run.specs.Seats.{IsKeyedPiece};
     ghost use Rattle.piece_run.specs.Staged.{last_step};
 
     type Seat = Seat<S>;
@@ -47,13 +51,12 @@ impl<
 
     ghost full = { λ j. last_step j.stage + 1 };
 
-    ghost fits = { λ j s. HaveLengths j.stage.cut.now.lengths (map S.held s.files.items)
-        × (map S.held s.files.items ≡ map S.held j.files.now)
+    ghost fits = { λ j s. HoldsFiles S.held j.stage.cut.now (T.told j.told.now) s
         × Evaluates j.stage.depth (F.pre j.stage.evaluator.inner)
         (F.post j.stage.evaluator.inner) };
 
     ghost good = { λ j piece limit out.
-        IsKeyedPiece I.stands j.stage (map S.held j.files.now) piece limit out };
+        IsKeyedPiece I.stands j.stage (T.told j.told.now) piece limit out };
 
     ghost trouble = { λ s. all_faults S.faults s.files.items };
 

@@ -19,15 +19,11 @@ mod ordering;
 mod piece;
 mod reading;
 mod run;
-mod seat;
 mod stage;
-mod text;
 
-pub use came::{CameOut, ItemsKept};
+pub use came::CameOut;
 pub use finish::{finish_groups, finish_numbers, finish_order};
 pub use gathering::{gather_whole, gather_whole_orders};
 pub use job::DrivenJob;
 pub use run::run_driven;
-pub use seat::Seat;
 pub use stage::{DrivenStage, NarrowSteps, StageEnd};
-pub use text::Text;

@@ -13,7 +13,7 @@ ghost use Rattle.piece_outcomes.specs.Orders.{IsWide};
 ghost use Rattle.piece_run.specs.Outcomes.{CameIs, passed};
 ghost use Rattle.piece_run.specs.Ordering.{OrderOutcomeIs, IsOrderOutcomeOf, OrderEndsAs};
 
-use crate::came::{CameOut, ItemsKept};
+use crate::came::CameOut;
 use crate::counts::with_count;
 use crate::ordering::{OrderedTuples, Ordering, ordered_tuples};
 use crate::stage::NarrowSteps;
@@ -21,6 +21,7 @@ use clause_eval::{Evaluator, Frame, Progress, Told, column_places};
 use item_tree::NoMemory;
 use order_runs::ClassSeen;
 use piece_outcomes::{OrderCounted, OrderOutcome};
+use piece_seats::ItemsKept;
 use query_meaning::{Env, EvalFault, Value};
 use query_tree::{BoundExpr, OrderKey};
 use std::alloc::Global;

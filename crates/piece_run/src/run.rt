@@ -2,22 +2,23 @@
 
 ghost use Rattle.std.specs.Prelude.{◌≡◌, ◌<◌, ◌+◌, length, map, All, IfOk, OnOk};
 ghost use Rattle.fault_merge.specs.Enough.{AllEnough};
-ghost use Rattle.line_pieces.specs.Cuts.{pieces_of, HaveLengths};
+ghost use Rattle.line_pieces.specs.Cuts.{pieces_of};
 ghost use Rattle.query_meaning.specs.inside.Evaluates.{Evaluates};
 ghost use Rattle.piece_board.specs.Faults.{IsJob};
 ghost use Rattle.piece_board.specs.Trouble.{SomeRose};
 ghost use Rattle.piece_board.specs.Whole.{IsWhole};
 ghost use Rattle.piece_outcomes.specs.Counting.{told_step};
-ghost use Rattle.piece_run.specs.Seats.{all_faults, IsKeyedPiece, HasFiles};
+ghost use Rattle.piece_seats.specs.Seats.{all_faults, HoldsFiles};
+ghost use Rattle.piece_run.specs.Seats.{IsKeyedPiece};
 ghost use Rattle.piece_run.specs.Staged.{last_step};
 
-use crate::came::{CameOut, ItemsKept};
+use crate::came::CameOut;
 use crate::job::DrivenJob;
-use crate::seat::Seat;
 use crate::stage::DrivenStage;
 use outside::{Failed, Gate, InputFile};
 use piece_board::{JobFault, Pieces, run_pieces};
 use piece_outcomes::Counted;
+use piece_seats::{FilesTold, ItemsKept, Seat};
 use query_meaning::{Env, EvalFault, Value};
 use query_tree::BoundExpr;
 use std::alloc::Global;
@@ -34,15 +35,17 @@ fn whole_limit<F>(stage: &DrivenStage<'_, F>) -> u32
 /// Runs the stage on all pieces of its input, by as many workers as there are seats.
 pub fn run_driven<
     'a,
+    't,
     R: Threads + Wait + Sync,
     F: for<'s, 'b> Fn(Global, &BoundExpr, &Env<'s, 'b>) -> Result<Value<'b>, EvalFault> + Sync,
+    T: FilesTold,
     S: InputFile + Send + Sync + Drop,
     I: ItemsKept + Send + Sync,
     G: Gate,
 >(
     rt: &R,
     alloc: Global,
-    job: &DrivenJob<'a, F, S, I>,
+    job: &DrivenJob<'a, 't, F, T, S, I>,
     seats: Vec<Seat<S>>,
     gate: &G,
 ) -> (
@@ -50,11 +53,12 @@ pub fn run_driven<
     Result<Pieces<Counted<CameOut<'a, I>>>, JobFault<Failed>>,
 )
     requires some { 0 < length seats.items }
-    requires files { All (HasFiles S.held job.now) seats.items }
+    requires files { All (HoldsFiles S.held job.now.stage.cut.now (T.told job.now.told.now))
+        seats.items }
     requires evaluates { Evaluates job.now.stage.depth (F.pre job.now.stage.evaluator.inner)
         (F.post job.now.stage.evaluator.inner) }
     ensures whole { IfOk result.1 (λ p. IsWhole told_step
-        (IsKeyedPiece I.stands job.now.stage (map S.held job.now.files.now))
+        (IsKeyedPiece I.stands job.now.stage (T.told job.now.told.now))
         (pieces_of job.now.stage.cut.now.size job.now.stage.cut.now.lengths)
         (last_step job.now.stage + 1) p.done.items p.events.items) }
     ensures enough { IfOk result.1

@@ -1,6 +1,7 @@
 use denote.Param.Send.{sendable}
 use mir.Syntax.{named}
-use Rattle.piece_run.proofs.Crossing.{counted_sent, job_seen, seat_sent}
+use Rattle.piece_seats.proofs.Crossing.{seat_sent}
+use Rattle.piece_run.proofs.Crossing.{counted_sent, job_seen}
 use Rattle.piece_run.proofs.run.run_driven.Goals as goal
 
 pub run_pieces-requires-send-J-Seat : goal.run_pieces-requires-send-J-Seat
@@ -11,4 +12,4 @@ run_pieces-requires-send-J-Out g c κs within = search (sendable, counted_sent) 
 
 pub run_pieces-requires-sync-J : goal.run_pieces-requires-sync-J
 run_pieces-requires-sync-J g c κs within =
-    record { shared = (job_seen (record { mir = named 0; lft = _ }) _ _ _ c.type_bounds.sync-F c.type_bounds.sync-S c.type_bounds.sync-I).shared }
+    record { shared = (job_seen (record { mir = named 0; lft = _ }) (record { mir = named 1; lft = _ }) _ _ _ _ c.type_bounds.sync-F c.type_bounds.sync-T c.type_bounds.sync-S c.type_bounds.sync-I).shared }

@@ -2,9 +2,9 @@
 
 ghost use Rattle.std.specs.Prelude.{◌≡◌, ◌+◌, ◌++◌, IfOk, OnOk};
 ghost use Rattle.item_tree.specs.Item.{datums};
-ghost use Rattle.piece_run.specs.Texts.{text_lines};
+ghost use Rattle.piece_seats.specs.Texts.{text_lines};
 
-use crate::came::ItemsKept;
+use crate::kept::ItemsKept;
 use item_printer::print_item;
 use item_tree::{Item, NoMemory};
 use std::alloc::Global;
@@ -50,7 +50,7 @@ fn bytes_behind(bytes: Vec<u8>, later: Vec<u8>) -> Result<Vec<u8>, NoMemory>
 }
 
 impl ItemsKept for Text {
-    ghost use Rattle.piece_run.specs.Texts.{IsTextOf};
+    ghost use Rattle.piece_seats.specs.Texts.{IsTextOf};
 
     ghost stands = { λ t ds. IsTextOf ds t.bytes.items t.items };
 

@@ -4,7 +4,7 @@ use Rattle.item_tree.specs.Datum.{Datum}
 use Rattle.item_tree.specs.Item.{datums}
 use Rattle.item_tree.specs.declared.item.Item.{Item}
 use Rattle.item_tree.specs.ItemText.{item_text}
-use Rattle.piece_run.specs.Texts.{text_lines, IsTextOf}
+use Rattle.piece_seats.specs.Texts.{text_lines, IsTextOf}
 
 pub text_append : (xs ys : List Datum) → text_lines (xs ++ ys) ≡ text_lines xs ++ text_lines ys
 text_append [] ys = refl

@@ -5,7 +5,7 @@ ghost use Rattle.outside.specs.Counted.{Rose};
 ghost use Rattle.line_pieces.specs.Cuts.{pieces_of, HaveLengths};
 ghost use Rattle.line_pieces.specs.Pieces.{told_piece};
 ghost use Rattle.piece_board.specs.Faults.{IsJob};
-ghost use Rattle.piece_run.specs.Seats.{all_faults};
+ghost use Rattle.piece_seats.specs.Seats.{all_faults};
 
 use line_pieces::{Cut, PieceFault, PieceReader};
 use outside::{Failed, InputFile};
@@ -17,11 +17,12 @@ use std::alloc::Global;
 pub struct Seat<S> {
     /// The files.
     pub files: Vec<S>,
-    pub(crate) pieces: PieceReader,
+    /// What reads pieces of them, and lends the lines of the last one.
+    pub pieces: PieceReader,
 }
 
 impl<S> Seat<S> {
-    /// A worker with these files, which has read nothing.
+    /// A worker with these files, which has read nothing. Takes no memory.
     pub fn new(alloc: Global, files: Vec<S>) -> Seat<S>
         ensures { result.files ≡ files }
     {
@@ -57,8 +58,9 @@ fn read_files<S: InputFile>(
 }
 
 impl<S: InputFile> Seat<S> {
-    /// Reads a piece.
-    pub(crate) fn read_piece(&mut self, cut: &Cut, piece: u64) -> Result<(), JobFault<Failed>>
+    /// Reads a piece of the files that are cut so, whose lines `pieces` lends from then on. `Job`
+    /// comes where reading failed, which the file has counted.
+    pub fn read_piece(&mut self, cut: &Cut, piece: u64) -> Result<(), JobFault<Failed>>
         requires piece { piece < pieces_of cut.now.size cut.now.lengths }
         requires lengths { HaveLengths cut.now.lengths (map S.held self.old.files.items) }
         ensures lines { OnOk result (IfSome

@@ -1,7 +1,7 @@
 use Rattle.std.proofs.Common.{◌≡◌, ◌++◌, drop}
 use Rattle.item_tree.specs.Item.{datums}
-use Rattle.piece_run.specs.Texts.{text_lines}
-use Rattle.piece_run.proofs.text.print_items.Given as goal
+use Rattle.piece_seats.specs.Texts.{text_lines}
+use Rattle.piece_seats.proofs.text.print_items.Given as goal
 
 abbrev pub invariant-loop-item : goal.invariant-loop-item
 invariant-loop-item l =

@@ -1,8 +1,8 @@
 use Rattle.std.proofs.Common.{◌≡◌, Err, map, subst}
 use Rattle.line_pieces.specs.Cuts.{file_of_piece}
 use Rattle.line_pieces.specs.Faults.{CausedByFile}
-use Rattle.piece_run.proofs.Sums.{sum_rises, sum_rose, as_long, same_sum}
-use Rattle.piece_run.proofs.seat.read_files.Goals as goal
+use Rattle.piece_seats.proofs.Sums.{sum_rises, sum_rose, as_long, same_sum}
+use Rattle.piece_seats.proofs.seat.read_files.Goals as goal
 
 pub returns-in-Err-ReadFault-clause-rises : goal.returns-in-Err-ReadFault-clause-rises
 returns-in-Err-ReadFault-clause-rises g c =

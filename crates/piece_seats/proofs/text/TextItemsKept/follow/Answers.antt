@@ -1,5 +1,5 @@
-use Rattle.piece_run.proofs.Texts.{text_after}
-use Rattle.piece_run.proofs.text.TextItemsKept.follow.Goals as goal
+use Rattle.piece_seats.proofs.Texts.{text_after}
+use Rattle.piece_seats.proofs.text.TextItemsKept.follow.Goals as goal
 
 pub returns : goal.returns
 returns c = λ a b h k.

@@ -1,8 +1,8 @@
 use Rattle.std.proofs.Common.{length, refl, sym}
 use Rattle.item_tree.specs.Item.{datums}
-use Rattle.piece_run.specs.Texts.{text_lines}
-use Rattle.piece_run.proofs.Texts.{text_after, datums_length}
-use Rattle.piece_run.proofs.text.TextItemsKept.add.Goals as goal
+use Rattle.piece_seats.specs.Texts.{text_lines}
+use Rattle.piece_seats.proofs.Texts.{text_after, datums_length}
+use Rattle.piece_seats.proofs.text.TextItemsKept.add.Goals as goal
 
 pub returns : goal.returns
 returns c = λ ds h.
