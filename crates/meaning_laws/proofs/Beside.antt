@@ -19,12 +19,12 @@ use Rattle.query_tree.specs.Compiled.{BoundTrees}
 use Rattle.query_tree.specs.Inputs.{names_read, all_names}
 use Rattle.query_tree.specs.Modules.{PlainVariable, PlainFunction}
 use Rattle.query_tree.specs.Subtrees.{subtrees, clause_subtrees, clauses_subtrees}
-use Rattle.mode_planner.specs.Beside.{drivers, drives, calls_beside, input_calls, names_beside}
+use Rattle.mode_planner.specs.Beside.{expressions, drivers, drives, calls_beside, input_calls, names_beside}
 use Rattle.mode_planner.specs.Drivers.{DriverPlan, call_driver}
 use Rattle.query_meaning.specs.Library.{Library}
 use Rattle.query_meaning.specs.Queries.{program_of}
 use Rattle.meaning_laws.specs.Agreement.{names_called, names_in_bodies, AgreeOn, SameFunctions, CallsTheSame}
-use Rattle.meaning_laws.specs.Beside.{expressions, StandsIn, is_beside, variables_beside, functions_beside, flwor_of, BesideTheSame, NamesBesideSuffice}
+use Rattle.meaning_laws.specs.Beside.{StandsIn, is_beside, variables_beside, functions_beside, flwor_of, BesideTheSame, NamesBesideSuffice}
 use Rattle.meaning_laws.proofs.Alike.{both_parts}
 use Rattle.meaning_laws.proofs.Calling.{of_each, of_joined, Agree}
 use Rattle.meaning_laws.proofs.Finding.{finds_calls}

@@ -17,11 +17,11 @@ use Rattle.query_tree.specs.Bound.{BoundTree}
 use Rattle.query_tree.specs.Plain as p
 use Rattle.query_tree.specs.Plain.{PlainClause, PlainClauses}
 use Rattle.query_tree.specs.Subtrees.{subtrees, trees_subtrees, clause_subtrees, clauses_subtrees}
-use Rattle.mode_planner.specs.Beside.{drives, is_driver}
+use Rattle.mode_planner.specs.Beside.{drives, is_driver, one_if_driven, driven_calls}
 use Rattle.mode_planner.specs.Drivers.{DriverPlan, call_driver}
 use Rattle.mode_planner.specs.Laws.{HasDriver}
 use Rattle.meaning_laws.specs.Beside.{is_beside, flwor_of}
-use Rattle.meaning_laws.specs.Once.{one_if_driven, driven_calls, DriversAreAlone}
+use Rattle.meaning_laws.specs.Once.{DriversAreAlone}
 use Rattle.meaning_laws.proofs.Beside.{clauses_joined}
 use Rattle.meaning_laws.proofs.Calling.{of_each}
 

@@ -24,13 +24,13 @@ use Rattle.mode_planner.specs.declared.plan.End.{End}
 use Rattle.mode_planner.specs.declared.plan.End.TheVariants.{Items, Part}
 use Rattle.mode_planner.specs.declared.plan.Label.{Label}
 use Rattle.mode_planner.specs.declared.plan.Label.TheVariants as label
-use Rattle.mode_planner.specs.Beside.{drivers, drives}
+use Rattle.mode_planner.specs.Beside.{expressions, drivers, drives, driven_calls, stand_once}
 use Rattle.mode_planner.specs.Drivers.{DriverPlan, clauses_driver, folds}
 use Rattle.mode_planner.specs.Laws.{ExpressionsStandOnce, DriversStandFirst}
 use Rattle.mode_planner.specs.Plans.{Driven, driven_flwor, driven, argument, own_plan, call_plan, driven_plan, leaf_plan, plan}
 use Rattle.mode_planner.specs.Spine.{leaves, passed, handlers}
-use Rattle.meaning_laws.specs.Beside.{expressions, is_beside}
-use Rattle.meaning_laws.specs.Once.{driven_calls, stand_once, own_drivers, DriversStandApart, DriversStandOnce}
+use Rattle.meaning_laws.specs.Beside.{is_beside}
+use Rattle.meaning_laws.specs.Once.{own_drivers, DriversStandApart, DriversStandOnce}
 use Rattle.meaning_laws.proofs.Counting.{all_driven, node, count_more, count_both, each_none, clauses_low, flwor_counts, alone}
 use Rattle.meaning_laws.proofs.Standing.{each_declared}
 

@@ -15,7 +15,7 @@ use Rattle.query_tree.specs.Compiled.{BoundTrees}
 use Rattle.query_tree.specs.Plain as p
 use Rattle.query_tree.specs.Plain.{PlainClauses}
 use Rattle.query_tree.specs.Subtrees.{subtrees}
-use Rattle.mode_planner.specs.Beside.{drivers, drives, names_beside}
+use Rattle.mode_planner.specs.Beside.{drivers, drives, driven_calls, stand_once, names_beside}
 use Rattle.mode_planner.specs.Drivers.{DriverPlan}
 use Rattle.mode_planner.specs.Laws.{ExpressionsStandOnce, DriversStandFirst, HasDriver}
 use Rattle.mode_planner.specs.Plans.{LeafPlan, leaf_plan, plan}
@@ -25,7 +25,7 @@ use Rattle.query_meaning.specs.Calls.{Program}
 use Rattle.query_meaning.specs.Queries.{program_of}
 use Rattle.meaning_laws.specs.Agreement.{AgreeOn, CallsTheSame}
 use Rattle.meaning_laws.specs.Beside.{StandsIn, is_beside, flwor_of, BesideTheSame}
-use Rattle.meaning_laws.specs.Once.{driven_calls, stand_once, own_drivers, DriversStandApart}
+use Rattle.meaning_laws.specs.Once.{own_drivers, DriversStandApart}
 use Rattle.meaning_laws.specs.Planned.{IsDriven, PartsTheSame, RunsTheSame, PlansReadBeside}
 use Rattle.meaning_laws.proofs.Alike.{both_parts}
 use Rattle.meaning_laws.proofs.Beside.{names_beside_suffice}

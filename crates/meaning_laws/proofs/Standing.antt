@@ -14,7 +14,8 @@ use Rattle.query_tree.specs.Compiled.{BoundTrees}
 use Rattle.query_tree.specs.Modules.{PlainVariable, PlainFunction}
 use Rattle.query_tree.specs.Subtrees.{subtrees, children}
 use Rattle.query_tree.proofs.Held.{tree-held}
-use Rattle.meaning_laws.specs.Beside.{expressions, StandsIn, ExpressionsStand}
+use Rattle.mode_planner.specs.Beside.{expressions}
+use Rattle.meaning_laws.specs.Beside.{StandsIn, ExpressionsStand}
 use Rattle.meaning_laws.proofs.Alike.{both_parts}
 use Rattle.meaning_laws.proofs.Calling.{of_each}
 

@@ -1,18 +1,17 @@
 -- Where the expressions of a query stand, and that those in which no call is a driver of a plan
 -- come to the same where the inputs that only drivers read are left out.
 use Rattle.std.specs.Prelude.{◌≡◌, ℕ, Bool, true, not, List, ◌++◌}
-use Rattle.std.specs.List.{All, filter_map, flat_map, list_all, list_any}
+use Rattle.std.specs.List.{All, filter_map, list_all, list_any}
 use Rattle.seq_types.specs.declared.types.SeqType.{SeqType}
 use Rattle.query_tree.specs.declared.bound.Slot.{Slot}
 use Rattle.query_tree.specs.declared.bound.Target.{Target}
 use Rattle.query_tree.specs.Bound.{BoundTree}
-use Rattle.query_tree.specs.Calls.{module_trees}
 use Rattle.query_tree.specs.Compiled.{BoundTrees}
 use Rattle.query_tree.specs.Modules.{PlainVariable, PlainFunction}
 use Rattle.query_tree.specs.Plain as p
 use Rattle.query_tree.specs.Plain.{PlainClause}
 use Rattle.query_tree.specs.Subtrees.{subtrees}
-use Rattle.mode_planner.specs.Beside.{drivers, drives, names_beside}
+use Rattle.mode_planner.specs.Beside.{expressions, drivers, drives, names_beside}
 use Rattle.mode_planner.specs.Drivers.{DriverPlan, call_driver}
 use Rattle.mode_planner.specs.Plans.{LeafPlan}
 use Rattle.query_meaning.specs.Library.{Library}
@@ -22,10 +21,6 @@ use Rattle.query_meaning.specs.Queries.{program_of, globals_value}
 use Rattle.meaning_laws.specs.Agreement.{names_called, AgreeOn, SameFunctions, CallsTheSame}
 
 -- ---- the expressions of a query
-
--- those of its declarations and of its body, with all that stand inside them
-abbrev pub expressions : BoundTrees → List BoundTree
-expressions m = flat_map subtrees (module_trees m)
 
 -- An expression is one of the query's, and so are those inside it.
 pub record StandsIn (m : BoundTrees) (t : BoundTree) : Type 0 where

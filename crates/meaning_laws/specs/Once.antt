@@ -1,7 +1,7 @@
 -- Plans whose drivers stand once. Where a query has as many calls that drivers are as it has
 -- drivers, no other call is taken for one, so all else in the query stands beside the drivers.
-use Rattle.std.specs.Prelude.{◌≡◌, ℕ, ◌==◌, Bool, true, if◌then◌else◌, Option, None, Some, List, length}
-use Rattle.std.specs.List.{All, sum_by}
+use Rattle.std.specs.Prelude.{◌≡◌, ℕ, Bool, true, List, length}
+use Rattle.std.specs.List.{All}
 use Rattle.std.specs.Option.{option_to_list}
 use Rattle.item_tree.specs.declared.functions.FnId.{FnId}
 use Rattle.seq_types.specs.declared.types.SeqType.{SeqType}
@@ -13,25 +13,12 @@ use Rattle.query_tree.specs.Compiled.{BoundTrees}
 use Rattle.query_tree.specs.Plain as p
 use Rattle.query_tree.specs.Plain.{PlainClauses}
 use Rattle.query_tree.specs.Subtrees.{subtrees}
-use Rattle.mode_planner.specs.Beside.{drivers, drives}
-use Rattle.mode_planner.specs.Drivers.{DriverPlan, call_driver}
+use Rattle.mode_planner.specs.Beside.{drivers, drives, driven_calls, stand_once}
+use Rattle.mode_planner.specs.Drivers.{DriverPlan}
 use Rattle.mode_planner.specs.Laws.{HasDriver}
 use Rattle.mode_planner.specs.Plans.{LeafPlan, plan}
 use Rattle.mode_planner.specs.Spine.{handlers}
-use Rattle.meaning_laws.specs.Beside.{expressions, is_beside, variables_beside, functions_beside, flwor_of}
-
--- one where a call is one of these drivers
-abbrev pub one_if_driven : List DriverPlan → Option DriverPlan → ℕ
-one_if_driven ds None = 0
-one_if_driven ds (Some call) = if drives ds call then 1 else 0
-
--- how many of these expressions are calls that drivers are
-abbrev pub driven_calls : List DriverPlan → List BoundTree → ℕ
-driven_calls ds ts = sum_by (λ t. one_if_driven ds (call_driver t)) ts
-
--- whether there are as many in a query as there are drivers
-abbrev pub stand_once : List DriverPlan → BoundTrees → Bool
-stand_once ds m = driven_calls ds (expressions m) == length ds
+use Rattle.meaning_laws.specs.Beside.{is_beside, variables_beside, functions_beside, flwor_of}
 
 -- how many drivers a leaf has: one or none
 abbrev pub own_drivers : LeafPlan → ℕ

@@ -10,7 +10,7 @@ use Rattle.query_tree.specs.Bound.{BoundTree}
 use Rattle.query_tree.specs.Compiled.{BoundTrees}
 use Rattle.query_tree.specs.Plain as p
 use Rattle.query_tree.specs.Plain.{PlainClauses}
-use Rattle.mode_planner.specs.Beside.{drivers, names_beside}
+use Rattle.mode_planner.specs.Beside.{drivers, stand_once, names_beside}
 use Rattle.mode_planner.specs.Drivers.{DriverPlan}
 use Rattle.mode_planner.specs.Laws.{HasDriver}
 use Rattle.mode_planner.specs.Plans.{LeafPlan, plan}
@@ -20,7 +20,6 @@ use Rattle.query_meaning.specs.Calls.{Program}
 use Rattle.query_meaning.specs.Queries.{program_of, globals_value}
 use Rattle.meaning_laws.specs.Agreement.{AgreeOn, SameFunctions, CallsTheSame}
 use Rattle.meaning_laws.specs.Beside.{StandsIn, flwor_of}
-use Rattle.meaning_laws.specs.Once.{stand_once}
 
 -- an expression is the leaf, or the one argument of the call of a function that the leaf is
 abbrev pub IsDriven : BoundTree → BoundTree → Type 0

@@ -2,3 +2,4 @@
 pub mod Views
 pub mod Walk
 pub mod Calls
+pub mod Tables

@@ -153,8 +153,14 @@ fn local_lines(alloc: Global, lines: &[Line]) -> Result<Vec<Line>, NoMemory>
     Ok(local)
 }
 
-/// A leaf, where all is to be local or not.
-pub(crate) fn leaf<'q>(
+/// The plan of one leaf of a body. `local` asks that nothing runs over pieces.
+///
+/// The time grows with the number of its clauses.
+///
+/// # Errors
+///
+/// `NoMemory` where memory runs out, or a FLWOR has 2^32 - 1 clauses or more.
+pub fn plan_leaf<'q>(
     alloc: Global,
     tree: &'q BoundExpr,
     local: bool,

@@ -4,6 +4,7 @@
 mod beside;
 mod clauses;
 mod driven;
+mod driver_table;
 mod drivers;
 pub mod laws;
 mod leaf;
@@ -12,6 +13,7 @@ mod planning;
 mod spine;
 mod words;
 
-pub use beside::names_beside_drivers;
+pub use beside::{drivers_stand_once, names_beside_drivers};
+pub use leaf::plan_leaf;
 pub use plan::{Driver, End, Label, Leaf, Line, Mode, Plan, Stage};
 pub use planning::make_plan;

@@ -5,8 +5,7 @@ ghost use Rattle.query_tree.specs.Compiled.{bound_trees};
 ghost use Rattle.mode_planner.specs.Plans.{plan};
 ghost use Rattle.mode_planner.specs.inside.Views.{leaf_of};
 
-use crate::Plan;
-use crate::leaf::leaf;
+use crate::{Plan, plan_leaf};
 use crate::spine::leaves;
 use item_tree::NoMemory;
 use query_tree::BoundModule;
@@ -30,7 +29,7 @@ pub fn make_plan<'q>(
     let trees = leaves(alloc, &query.body)?;
     let mut planned = Vec::new(alloc);
     for tree in &trees {
-        planned.push(leaf(alloc, *tree, local)?)?;
+        planned.push(plan_leaf(alloc, *tree, local)?)?;
     }
     Ok(Plan { leaves: planned })
 }

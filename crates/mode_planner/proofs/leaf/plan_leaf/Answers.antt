@@ -2,7 +2,7 @@ use Rattle.std.proofs.Common.{sym, ap, map, ◌∙◌}
 use Rattle.query_tree.specs.BoundViews.{bound_tree}
 use Rattle.mode_planner.specs.Plans.{local_line, leaf_plan}
 use Rattle.mode_planner.proofs.Locals.{made_local}
-use Rattle.mode_planner.proofs.leaf.leaf.Goals as goal
+use Rattle.mode_planner.proofs.leaf.plan_leaf.Goals as goal
 
 pub returns-then-local : goal.returns-then-local
 returns-then-local c =
