@@ -5,9 +5,9 @@ use Rattle.line_pieces.specs.inside.Contents.{is_end}
 use Rattle.line_pieces.proofs.Ends.{none_ends, parted, before_past}
 
 -- so many bytes of the file from one place on stand in front
-abbrev pub IsFront : ℕ → ℕ → ℕ → List ℕ → Option (List ℕ) → Type 0
-IsFront from end filled bytes held =
-    IfSome held (λ b. end ≤ length b → take filled bytes ≡ take filled (drop from b))
+abbrev pub IsFront : ℕ → ℕ → List ℕ → Option (List ℕ) → Type 0
+IsFront from filled bytes held =
+    IfSome held (λ b. take filled bytes ≡ take filled (drop from b))
 
 -- what is read and what is to come up to a line feed stand behind what was there before
 abbrev pub IsLineFront : ℕ → ℕ → ℕ → ℕ → List ℕ → List ℕ → Option (List ℕ) → Type 0
@@ -29,15 +29,15 @@ front_is filled now had bytes h kept =
     ∙ take-add filled (now - filled) bytes
     ∙ ap (λ (xs : List ℕ). xs ++ slice_range bytes filled now) kept
 
-pub front_more : (from end filled now : ℕ) (had bytes : List ℕ) (held : Option (List ℕ)) → filled ≤ now
+pub front_more : (from filled now : ℕ) (had bytes : List ℕ) (held : Option (List ℕ)) → filled ≤ now
     → take filled bytes ≡ take filled had
-    → IsFront from end filled had held → IsRead (from + filled) filled now bytes held
-    → IsFront from end now bytes held
-front_more from end filled now had bytes None h kept e f = tt
-front_more from end filled now had bytes (Some b) h kept e f = λ le.
+    → IsFront from filled had held → IsRead (from + filled) filled now bytes held
+    → IsFront from now bytes held
+front_more from filled now had bytes None h kept e f = tt
+front_more from filled now had bytes (Some b) h kept e f =
     let whole : filled + (now - filled) ≡ now = omega (arith, h) in
     front_is filled now had bytes h kept
-    ∙ ap₂ (λ (xs ys : List ℕ). xs ++ ys) (e le) (f ∙ ap (take (now - filled)) (sym (drop-drop _ _ b)))
+    ∙ ap₂ (λ (xs ys : List ℕ). xs ++ ys) e (f ∙ ap (take (now - filled)) (sym (drop-drop _ _ b)))
     ∙ sym (take-add filled (now - filled) (drop from b))
     ∙ ap (λ k. take k (drop from b)) whole
 

@@ -211,7 +211,7 @@ pub none_in_part : (size number whole from end : ℕ) (range : List ℕ) (held :
     → (0 < number → r ≡ option_map (λ i. i + 1) (position is_end range))
     → r ≡ None
     → IfSome held (λ b. whole ≡ length b)
-    → IfSome held (λ b. end ≤ length b → range ≡ slice_range b from end)
+    → IfSome held (λ b. range ≡ slice_range b from end)
     → IfSome held (λ b. [] ≡ lines_in size number b)
 none_in_part size number whole from end range None r w first later none told read = tt
 none_in_part size zero whole from end range (Some b) r w first later none told read =
@@ -219,7 +219,7 @@ none_in_part size zero whole from end range (Some b) r w first later none told r
 none_in_part size (suc n) whole from end range (Some b) r w first later none told read =
     let has = ranged size (suc n) whole from end b w told in
     no_part size (suc n) from end b (has.later (omega arith)) has.order has.inside has.last
-    (ap (position is_end) (sym (read has.inside)) ∙ no_position (position is_end range) (sym (later (omega arith)) ∙ none))
+    (ap (position is_end) (sym read) ∙ no_position (position is_end range) (sym (later (omega arith)) ∙ none))
 
 -- the lines of what was read are the piece
 pub some_in_part : (size number whole from end skipped : ℕ) (range bytes : List ℕ) (held : Option (List ℕ)) (r : Option ℕ)
@@ -228,7 +228,7 @@ pub some_in_part : (size number whole from end skipped : ℕ) (range bytes : Lis
     → (0 < number → r ≡ option_map (λ i. i + 1) (position is_end range))
     → r ≡ Some skipped
     → IfSome held (λ b. whole ≡ length b)
-    → IfSome held (λ b. end ≤ length b → range ≡ slice_range b from end)
+    → IfSome held (λ b. range ≡ slice_range b from end)
     → IfSome held (λ b. whole ≡ length b → from + length range ≡ end
     → bytes ≡ range ++ before_first is_end (drop end b))
     → IfSome held (λ b. lines_at (from + skipped) (drop skipped bytes) ≡ lines_in size number b)
@@ -240,7 +240,7 @@ some_in_part size number whole from end skipped range bytes (Some b) r w first l
     has = ranged size number whole from end b w told
 
     is : range ≡ slice_range b from end
-    is = read has.inside
+    is = read
 
     count : length range ≡ end - from
     count = ap (λ (l : List ℕ). length l) is ∙ range_length b from end has.inside
@@ -296,7 +296,7 @@ pub some_read : (size number whole from end skipped n filled : ℕ) (first bytes
     → r ≡ Some skipped
     → n ≤ length first → skipped ≤ filled
     → IfSome held (λ b. whole ≡ length b)
-    → IfSome held (λ b. end ≤ length b → take n first ≡ slice_range b from end)
+    → IfSome held (λ b. take n first ≡ slice_range b from end)
     → IfSome held (λ b. whole ≡ length b → from + n ≡ end
     → take filled bytes ≡ take n first ++ before_first is_end (drop end b))
     → IfSome held (λ b. lines_at (from + skipped) (slice_range bytes skipped filled) ≡ lines_in size number b)

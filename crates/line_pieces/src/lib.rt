@@ -17,5 +17,5 @@ pub use cut::Cut;
 pub use fault::PieceFault;
 pub use lines::{LentLine, Line, Lines};
 pub use piece::{count_lines, piece_lines};
-pub use read::read_whole;
+pub use read::{read_start, read_whole};
 pub use reader::PieceReader;

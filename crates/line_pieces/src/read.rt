@@ -107,7 +107,7 @@ pub(crate) fn read_range<F: InputFile>(
     ensures within { IfOk result (λ n. from + n ≤ end) }
     ensures inside { IfOk result (λ n. n ≤ vec_len bytes.new) }
     ensures bytes { IfOk result (λ n. IfSome (F.held file.old) (λ b.
-        end ≤ length b → take n bytes.new.items ≡ slice_range b from end)) }
+        take n bytes.new.items ≡ slice_range b from end)) }
     ensures cause { CausedBy result (F.faults file.old) (F.faults file.new) }
     ensures rises { F.faults file.old ≤ F.faults file.new }
 {
@@ -202,6 +202,26 @@ pub fn read_whole<F: InputFile>(alloc: Global, file: &mut F) -> Result<Vec<u8>, 
     };
     let mut bytes = Vec::with_capacity(alloc, length as usize)?;
     let filled = read_range(file, &mut bytes, 0, length)?;
+    bytes.truncate(filled);
+    Ok(bytes)
+}
+
+/// The first bytes of a file, as many as are wanted, or all where it has fewer. The file is not
+/// asked for its length, nor for any byte past these. A read that gives none before that ends the
+/// file there.
+pub fn read_start<F: InputFile>(
+    alloc: Global,
+    file: &mut F,
+    most: u64,
+) -> Result<Vec<u8>, PieceFault>
+    ensures same { F.held file.new ≡ F.held file.old }
+    ensures bytes { IfOk result (λ v. IfSome (F.held file.old) (λ b. v.items ≡ take most b)) }
+    ensures most { IfOk result (λ v. vec_len v ≤ most) }
+    ensures cause { CausedBy result (F.faults file.old) (F.faults file.new) }
+    ensures rises { F.faults file.old ≤ F.faults file.new }
+{
+    let mut bytes = Vec::new(alloc);
+    let filled = read_range(file, &mut bytes, 0, most)?;
     bytes.truncate(filled);
     Ok(bytes)
 }

@@ -12,6 +12,6 @@ reading-preserved g c =
       steady = c.in_ok-now.ensures.cause ∙ had.steady;
       within = grind (arith, common_steps);
       inside = c.in_ok-now.ensures.inside;
-      bytes = front_more c.args.from c.args.end c.reading.filled c.in_ok-now.now c.reading.bytes.items
+      bytes = front_more c.args.from c.reading.filled c.in_ok-now.now c.reading.bytes.items
           c.read_behind.new.bytes.items _ c.in_ok-now.ensures.longer c.in_ok-now.ensures.kept had.bytes read;
     }

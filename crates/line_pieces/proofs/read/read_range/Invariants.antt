@@ -8,7 +8,7 @@ invariant-reading g l = record {
   steady : g.F.InputFile.faults l.file ≡ g.F.InputFile.faults l.fn.file;
   within : l.from + l.filled ≤ l.end;
   inside : l.filled ≤ vec_len l.bytes;
-  bytes : IsFront l.from l.end l.filled l.bytes.items (g.F.InputFile.held l.fn.file);
+  bytes : IsFront l.from l.filled l.bytes.items (g.F.InputFile.held l.fn.file);
 }
 
 abbrev pub decreases-reading : goal.decreases-reading
