@@ -16,6 +16,7 @@ use Rattle.piece_outcomes.specs.Counting.{told_step, order_told_step}
 use Rattle.piece_outcomes.specs.Orders.{clash_at, IsWide}
 use Rattle.piece_outcomes.specs.declared.outcome.Counted.{Counted}
 use Rattle.piece_outcomes.specs.declared.outcome.OrderCounted.{OrderCounted}
+pub use Rattle.piece_seats.specs.Counting.{lines_before}
 use Rattle.piece_run.specs.Outcomes.{IsOutcomeOf}
 use Rattle.piece_run.specs.Ordering.{IsOrderOutcomeOf}
 
@@ -34,10 +35,6 @@ all_lists o = flat_map o.lists (range_with_len 0 o.total)
 -- what the stage makes of them all
 abbrev pub whole_run : {B K : Type 0} → OnPieces B K → Result B (Met K Fault)
 whole_run o = o.stage.run (all_lists o)
-
--- how many lines stand before a piece
-abbrev pub lines_before : (ℕ → List Line) → ℕ → ℕ
-lines_before lists p = length (flat_map lists (range_with_len 0 p))
 
 -- the lines of a piece with their numbers in the whole input
 abbrev pub numbered_piece : (ℕ → List Line) → ℕ → List (ℕ × Line)

@@ -1,3 +1,5 @@
 pub mod Crossing
+mod LinesBefore
+pub mod SeatsStay
 mod Sums
 mod Texts

@@ -1,2 +1,4 @@
+pub mod inside
+pub mod Counting
 pub mod Seats
 pub mod Texts

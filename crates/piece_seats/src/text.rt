@@ -1,9 +1,10 @@
 //! The items of a stage, as their printed text.
 
-ghost use Rattle.std.specs.Prelude.{◌≡◌, ◌+◌, ◌++◌, IfOk, OnOk};
+ghost use Rattle.std.specs.Prelude.{◌≡◌, ◌++◌, IfOk, OnOk};
 ghost use Rattle.item_tree.specs.Item.{datums};
 ghost use Rattle.piece_seats.specs.Texts.{text_lines};
 
+use crate::counts::counted;
 use crate::kept::ItemsKept;
 use item_printer::print_item;
 use item_tree::{Item, NoMemory};
@@ -27,16 +28,6 @@ fn print_items(items: &[Item], out: &mut Vec<u8>) -> Result<(), NoMemory>
         out.push(b'\n')?;
     }
     Ok(())
-}
-
-// The sum of two counts. One that does not fit would count more than memory holds.
-fn counted(a: u64, b: u64) -> Result<u64, NoMemory>
-    ensures { IfOk result (λ n. n ≡ a + b) }
-{
-    match a.checked_add(b) {
-        Some(n) => Ok(n),
-        None => Err(NoMemory),
-    }
 }
 
 // One text after another.

@@ -1,0 +1,3 @@
+-- How contracts of private functions see the code.
+pub mod Found
+pub mod Sums
