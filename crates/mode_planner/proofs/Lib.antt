@@ -7,4 +7,5 @@ mod Placing
 mod Rows
 pub mod Walking
 mod Besides
+mod Tables
 mod NamesRead

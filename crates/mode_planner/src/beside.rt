@@ -41,13 +41,7 @@ fn driven_one(drivers: &DriverTable<'_>, tree: &BoundExpr) -> usize
         (call_driver (bound_tree tree.now)) }
 {
     match call_driver(tree) {
-        Some(call) => {
-            if drivers.drives(&call) {
-                1
-            } else {
-                0
-            }
-        }
+        Some(call) => { if drivers.drives(&call) { 1 } else { 0 } }
         None => 0,
     }
 }
@@ -90,8 +84,7 @@ pub fn names_beside_drivers(
 }
 
 /// Whether each driver of this plan of a query stands once: whether as many calls of the query are
-/// drivers as there are drivers. It is so in each query that was read from a text, where no two
-/// calls have one place.
+/// drivers as there are drivers.
 ///
 /// The time grows with the size of the query times the logarithm of the number of drivers.
 ///

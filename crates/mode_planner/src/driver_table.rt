@@ -12,13 +12,13 @@ use item_tree::NoMemory;
 use std::alloc::Global;
 use std::collections::BTreeMap;
 
-// The drivers at each place that has one. In a query that was read from a text a place has one.
+// The drivers at each place that has one.
 type Places<'q> = BTreeMap<u32, Vec<Driver<'q>>>;
 
 // One more driver, after the others of its place.
 fn note<'q>(alloc: Global, places: &mut Places<'q>, driver: Driver<'q>) -> Result<(), NoMemory>
     ensures { OnOk result ((place : ℕ) → drivers_at places.new place
-        ≡ drivers_at places.old place ++ at_place place (driver_of driver ∷ [])) }
+        ≡ drivers_at places.old place ++ at_place place (driver_of driver.entry ∷ [])) }
 {
     match places.get_mut(&driver.place) {
         Some(drivers) => drivers.push(driver)?,
@@ -28,16 +28,6 @@ fn note<'q>(alloc: Global, places: &mut Places<'q>, driver: Driver<'q>) -> Resul
         }
     }
     Ok(())
-}
-
-// The drivers of a place.
-fn drivers_at<'a, 'q>(places: &'a Places<'q>, place: u32) -> &'a [Driver<'q>]
-    ensures { map driver_of result.now ≡ drivers_at places.now place }
-{
-    match places.get(&place) {
-        Some(drivers) => drivers.as_slice(),
-        None => &[],
-    }
 }
 
 // Whether a driver is this call.
@@ -82,7 +72,7 @@ impl<'q> DriverTable<'q> {
     // With this driver after the others.
     fn with(self, alloc: Global, driver: Driver<'q>) -> Result<DriverTable<'q>, NoMemory>
         ensures { IfOk result (λ t. map driver_of t.all.items
-            ≡ map driver_of self.all.items ++ driver_of driver ∷ []) }
+            ≡ map driver_of self.entry.all.items ++ driver_of driver.entry ∷ []) }
     {
         let DriverTable {
             mut all,
@@ -95,7 +85,7 @@ impl<'q> DriverTable<'q> {
 
     // With the driver of a leaf, if it has one.
     fn with_leaf(self, alloc: Global, leaf: &Leaf<'q>) -> Result<DriverTable<'q>, NoMemory>
-        ensures { IfOk result (λ t. map driver_of t.all.items ≡ map driver_of self.all.items
+        ensures { IfOk result (λ t. map driver_of t.all.items ≡ map driver_of self.entry.all.items
             ++ option_to_list (option_map driver_of leaf.now.driver)) }
     {
         match leaf.driver {
@@ -124,6 +114,9 @@ impl<'q> DriverTable<'q> {
     pub fn drives(&self, call: &Driver<'_>) -> bool
         ensures { result ≡ drives (map driver_of self.now.all.items) (driver_of call.now) }
     {
-        is_among(drivers_at(&self.places, call.place), call)
+        match self.places.get(&call.place) {
+            Some(drivers) => is_among(drivers, call),
+            None => false,
+        }
     }
 }

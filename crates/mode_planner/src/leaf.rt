@@ -160,11 +160,7 @@ fn local_lines(alloc: Global, lines: &[Line]) -> Result<Vec<Line>, NoMemory>
 /// # Errors
 ///
 /// `NoMemory` where memory runs out, or a FLWOR has 2^32 - 1 clauses or more.
-pub fn plan_leaf<'q>(
-    alloc: Global,
-    tree: &'q BoundExpr,
-    local: bool,
-) -> Result<Leaf<'q>, NoMemory>
+pub fn plan_leaf<'q>(alloc: Global, tree: &'q BoundExpr, local: bool) -> Result<Leaf<'q>, NoMemory>
     ensures { IfOk result (λ l. leaf_of l ≡ leaf_plan local (bound_tree tree.now)) }
 {
     let leaf = driven_leaf(alloc, tree)?;

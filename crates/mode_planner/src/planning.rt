@@ -5,8 +5,8 @@ ghost use Rattle.query_tree.specs.Compiled.{bound_trees};
 ghost use Rattle.mode_planner.specs.Plans.{plan};
 ghost use Rattle.mode_planner.specs.inside.Views.{leaf_of};
 
-use crate::{Plan, plan_leaf};
 use crate::spine::leaves;
+use crate::{Plan, plan_leaf};
 use item_tree::NoMemory;
 use query_tree::BoundModule;
 use std::alloc::Global;

@@ -13,4 +13,4 @@ drivers_at m place = option_map_or (λ v. map driver_of v.items) (get nat_cmp m 
 
 -- those of a list that stand at this place
 abbrev pub at_place : ℕ → List DriverPlan → List DriverPlan
-at_place place ds = filter (λ d. d.place == place) ds
+at_place place ds = filter (λ d. place == d.place) ds
