@@ -1,7 +1,7 @@
 //! Queries with their plans, and with the inputs that are read beside the drivers.
 
-use crate::printed::{names_text, plan_text};
-use mode_planner::{make_plan, names_beside_drivers};
+use crate::printed::{names_text, once_text, plan_text};
+use mode_planner::{drivers_stand_once, make_plan, names_beside_drivers};
 use query_lexer::tokens;
 use query_parser::parse;
 use query_tree::{Compiled, Query, discard};
@@ -14,6 +14,7 @@ use std::test::Fail;
 enum Shown {
     Plan { local: bool },
     NamesBeside,
+    StandOnce,
 }
 
 fn text_of_tree(alloc: Global, text: &str, query: &Compiled, shown: Shown) -> Result<String, Fail> {
@@ -26,6 +27,10 @@ fn text_of_tree(alloc: Global, text: &str, query: &Compiled, shown: Shown) -> Re
             let plan = make_plan(alloc, query.module(), false)?;
             let names = names_beside_drivers(alloc, query.module(), &plan)?;
             names_text(alloc, &names)
+        }
+        Shown::StandOnce => {
+            let plan = make_plan(alloc, query.module(), false)?;
+            once_text(alloc, drivers_stand_once(alloc, query.module(), &plan)?)
         }
     }
 }
@@ -176,6 +181,21 @@ fn finds_inputs_beside_drivers(rt: HostRuntime) -> Result<(), Fail> {
     for (query, want) in rows {
         let text = planned(rt.alloc(), query, Shown::NamesBeside)?;
         assert_eq!(rt; text.as_str(), want);
+    }
+    Ok(())
+}
+
+#[test]
+fn finds_drivers_once(rt: HostRuntime) -> Result<(), Fail> {
+    let queries = [
+        "1, [json-lines(\"a\")]",
+        "json-lines(\"a\"), json-lines(\"a\"), [json-lines(\"a\")]",
+        "declare function f() { json-lines(\"a\") }; count(json-lines(\"a\")), f(), \
+         for $x at $i in json-lines(\"a\", \"b\") where $x = json-lines(\"a\") return $i",
+    ];
+    for query in queries {
+        let text = planned(rt.alloc(), query, Shown::StandOnce)?;
+        assert_eq!(rt; text.as_str(), "once");
     }
     Ok(())
 }

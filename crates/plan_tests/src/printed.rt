@@ -105,3 +105,9 @@ pub(crate) fn names_text(alloc: Global, names: &[Str]) -> Result<String, Fail> {
     }
     Ok(out)
 }
+
+/// Whether each driver stands once, as a word.
+pub(crate) fn once_text(alloc: Global, once: bool) -> Result<String, Fail> {
+    let word = if once { "once" } else { "otherwise" };
+    Ok(String::from_str(alloc, word)?)
+}
