@@ -119,10 +119,16 @@ module _ {T : Type 0} (reads : Reader T) (name : Name) where
   pub query_unread : (w : World) (fault : LoadFault) (c : Code) (place : ℕ) (contents : List ℕ)
       → fault ≡ Refused (record { file = name; code = c; place = place; opened = 1 }) contents → IsFound reads w name (found.Refused c place contents)
       → (sources : Sources (Kept T)) → AreSources reads w sources → IsLoaded sources name (Err fault)
-  query_unread w fault c place contents is (there, read) sources are =
+  query_unread w fault c place contents is (bytes, there, kept, read) sources are =
       let own : source_of sources name ≡ Some (Err (record { code = c; place = place })) =
-      are.read name contents (Err (unread.Refused c place)) (Err (record { code = c; place = place })) there read refl in
+      are.read name bytes (Err (unread.Refused c place)) (Err (record { code = c; place = place })) there read refl in
       subst (λ (f : LoadFault). IsLoaded sources name (Err f)) (sym is) (ap (option_map (loaded_query sources name)) own)
+
+  pub query_kept : (w : World) (fault : LoadFault) (c : Code) (place : ℕ) (contents : List ℕ)
+      → fault ≡ Refused (record { file = name; code = c; place = place; opened = 1 }) contents → IsFound reads w name (found.Refused c place contents)
+      → HasContents {T = T} w (Err fault)
+  query_kept w fault c place contents is (bytes, there, kept, read) =
+      subst (λ (f : LoadFault). HasContents {T = T} w (Err f)) (sym is) (bytes, there, kept)
 
   loaded_by : (sources : Sources (Kept T)) (kept : code.Source (Kept T)) (result : Answered T) → source_of sources name ≡ Some (Ok (source_view kept))
       → EndsAs sources (record { path = begun name (source_view kept) ∷ []; done = [] }) result → IsLoaded sources name result

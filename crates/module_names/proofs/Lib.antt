@@ -8,5 +8,6 @@ mod Steps
 mod Answering
 mod Stepping
 mod Finding
+mod Bodies
 mod Finishing
 mod WorldSources

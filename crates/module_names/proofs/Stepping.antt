@@ -72,12 +72,12 @@ module _ {T : Type 0} (A : Type 0) (reads : Reader T) (w : World) (before s new 
   pub unread_told : (fault : LoadFault) (c : Code) (place n : ℕ) (contents : List ℕ) → n ≡ length (files_in s)
       → fault ≡ Refused (record { file = i.name; code = c; place = place; opened = n + 1 }) contents → IsFound reads w i.name (found.Refused c place contents)
       → (sources : Sources (Kept T)) → AreSources reads w sources → Asks before s i → StepsTo {A = A} sources before new (Err fault)
-  unread_told fault c place n contents count is (there, read) sources are asks =
+  unread_told fault c place n contents count is (bytes, there, kept, read) sources are asks =
       subst (λ (f : LoadFault). StepsTo {A = A} sources before new (Err f)) (sym is)
       (subst (λ (k : ℕ). Remains sources before.path before.done (Err (record { file = i.name; code = c; place = place; opened = k + 1 })))
       (asks_count before s i asks ∙ sym count)
       ((answered (Kept T)).unread sources before s i (record { code = c; place = place }) asks
-      (are.read i.name contents (Err (unread.Refused c place)) (Err (record { code = c; place = place })) there read refl)))
+      (are.read i.name bytes (Err (unread.Refused c place)) (Err (record { code = c; place = place })) there read refl)))
 
   -- a library has a body that is not `()`
   pub body_told : (fault : LoadFault) (kept : code.Source (Kept T)) (place n : ℕ) → n ≡ length (files_in s)
@@ -119,11 +119,18 @@ held_at : {T : Type 0} (A : Type 0) (w : World) (done : Files (Kept T)) (path : 
 held_at {T} A w done [] files c place n fault is h = subst (λ (f : LoadFault). StaysHeld {T = T} {A = A} w files (Err f)) (sym is) tt
 held_at {T} A w done (u ∷ us) files c place n fault r h =
     subst (λ (f : LoadFault). StaysHeld {T = T} {A = A} w files (Err f)) (sym r.is)
-    (held_among w done (u.name, u.source) (map (λ f. (f.name, f.source)) us) h)
+    (u.source.rest.contents, held_among w done (u.name, u.source) (map (λ f. (f.name, f.source)) us) h, inl refl)
 
 pub refused_held : {T : Type 0} (A : Type 0) (w : World) (s : State (Kept T)) (files : Files (Kept T)) (c : Code) (place n : ℕ) (fault : LoadFault)
     → RefusesTop s.path c place n fault → AreHeld w (files_in s) → StaysHeld {T = T} {A = A} w files (Err fault)
 refused_held A w s files c place n fault top h = held_at A w s.done s.path files c place n fault top h
+
+-- a file that is refused alone
+pub found_held : {T : Type 0} (A : Type 0) (reads : Reader T) (w : World) (files : Files (Kept T)) (fault : LoadFault) (name : Name) (c : Code) (place n : ℕ) (contents : List ℕ)
+    → fault ≡ Refused (record { file = name; code = c; place = place; opened = n }) contents → IsFound reads w name (found.Refused c place contents)
+    → StaysHeld {T = T} {A = A} w files (Err fault)
+found_held {T} A reads w files fault name c place n contents is (bytes, there, kept, read) =
+    subst (λ (f : LoadFault). StaysHeld {T = T} {A = A} w files (Err f)) (sym is) (bytes, there, kept)
 
 pub library_held : {T : Type 0} (reads : Reader T) (w : World) (s new : State (Kept T)) (name : Name) (kept : code.Source (Kept T))
     → IsFound reads w name (found.Read kept) → new ≡ record { path = begun name (source_view kept) ∷ s.path; done = s.done }
@@ -135,13 +142,17 @@ library_held reads w s new name kept (there, k) is h =
 -- ---- the counts
 
 module _ {T : Type 0} (A : Type 0) (reads : Reader T) where
-  no_memory : (start after : InputCounts) → NoCountFalls start after → IsBalanced start after → LeavesLoad {A = A} reads (Err NoMemory) start after
-  no_memory start after falls balanced = record { faults = tt; misses = tt; falls = falls; balanced = balanced }
+  no_memory : (start after : InputCounts) → after.misses ≤ start.misses + 1 → NoCountFalls start after → IsBalanced start after → LeavesLoad {A = A} reads (Err NoMemory) start after
+  no_memory start after misses falls balanced = record { faults = tt; misses = misses; falls = falls; balanced = balanced }
+
+  one_missed : (n m : ℕ) → RoseByOne n m → m ≤ n + 1
+  one_missed n m (inl (lt, is)) = omega (arith, is)
+  one_missed n m (inr (top, is)) = omega (arith, is)
 
   pub missing_counts : (path : List (UnderWay (Kept T))) (place n : ℕ) (fault : LoadFault) (start after : InputCounts)
       → RefusesTop path PJST0007 place n fault → LeavesFound reads (Ok found.Missing) start after → LeavesLoad {A = A} reads (Err fault) start after
   missing_counts [] place n fault start after is h =
-      subst (λ (f : LoadFault). LeavesLoad {A = A} reads (Err f) start after) (sym is) (no_memory start after h.falls h.balanced)
+      subst (λ (f : LoadFault). LeavesLoad {A = A} reads (Err f) start after) (sym is) (no_memory start after (one_missed start.misses after.misses h.misses) h.falls h.balanced)
   missing_counts (u ∷ us) place n fault start after r h =
       subst (λ (f : LoadFault). LeavesLoad {A = A} reads (Err f) start after) (sym r.is)
       (record { faults = h.faults; misses = inr (refl, h.misses); falls = h.falls; balanced = h.balanced })
@@ -167,7 +178,7 @@ module _ {T : Type 0} (A : Type 0) (reads : Reader T) where
       → RefusesTop path r.code place n fault → RefusesInnermost s r → LeavesLoad {A = A} reads (Err fault) counts counts
   refused_counts s [] r place n fault counts is inner =
       subst (λ (f : LoadFault). LeavesLoad {A = A} reads (Err f) counts counts) (sym is)
-      (no_memory counts counts
+      (no_memory counts counts (omega arith)
       (record { faults = omega arith; misses = omega arith; opened = omega arith; closed = omega arith })
       (record { same = λ o c. refl }))
   refused_counts s (u ∷ us) r place n fault counts top inner =

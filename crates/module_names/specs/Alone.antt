@@ -1,6 +1,7 @@
 -- A file that is read alone: what its bytes come to, by what its reader makes of its text.
-use Rattle.std.specs.Prelude.{◌≡◌, ◌⊎◌, ◌<◌, ◌≤◌, ℕ, List, length, None, Some, Result, Ok, Err}
+use Rattle.std.specs.Prelude.{◌≡◌, ◌⊎◌, ◌<◌, ◌≤◌, ◌+◌, ℕ, List, length, take, None, Some, Result, Ok, Err}
 use Rattle.std.specs.Str.{IsUtf8, IsValidUpTo}
+use Rattle.item_tree.specs.declared.code.Code.{Code}
 use Rattle.item_tree.specs.declared.code.Code.TheVariants.{XPST0003, PJST0005}
 use Rattle.item_reader.specs.Lines.{without_mark}
 use Rattle.outside.specs.World.{World, file_of}
@@ -14,6 +15,10 @@ use Rattle.module_names.specs.Remaining.{source_view}
 -- how many bytes a file may have, with a byte order mark
 abbrev pub max_length : ℕ
 max_length = 1048576
+
+-- how many bytes of a file are read at most: one more than it may have shows that it is too long
+unfoldable pub most_read : ℕ
+most_read = max_length + 1
 
 -- what a reader answers
 abbrev pub Answer : Type 0 → Type 0
@@ -35,6 +40,14 @@ abbrev pub IsRead : {T : Type 0} → Reader T → List ℕ → Answer T → Type
 IsRead reads bytes answer =
     ((max_length < length bytes) × (answer ≡ Err (fault.Refused PJST0005 0)))
     ⊎ ((length bytes ≤ max_length) × IsTextRead reads (without_mark bytes) answer)
+
+-- the bytes that are kept of a file with this refusal: all of them; or the first ones, where it is
+-- refused for its length
+abbrev pub AreKept : Code → ℕ → List ℕ → List ℕ → Type 0
+AreKept code place bytes kept =
+    (kept ≡ bytes)
+    ⊎ ((max_length < length bytes) × (code ≡ PJST0005) × (place ≡ 0)
+    × (kept ≡ take most_read bytes))
 
 -- a source beside the bytes of its file
 abbrev pub with_contents : {T : Type 0} → List ℕ → Source T → Source (Kept T)

@@ -1,5 +1,5 @@
 -- What loading a query answers.
-use Rattle.std.specs.Prelude.{◌≡◌, ◌<◌, ◌≤◌, [], ◌∷◌, map, length, None, Some, Result, Ok, Err}
+use Rattle.std.specs.Prelude.{◌≡◌, ◌<◌, ◌≤◌, ℕ, List, [], ◌∷◌, map, length, None, Some, Result, Ok, Err}
 use Rattle.outside.specs.Opens.{InputCounts}
 use Rattle.outside.specs.World.{World, LacksName, file_of}
 use Rattle.std.specs.declared.alloc.Global.{Global}
@@ -8,6 +8,8 @@ use Rattle.module_names.specs.declared.file_bytes.Kept.{Kept}
 use Rattle.module_names.specs.declared.load_fault.LoadFault.{LoadFault}
 use Rattle.module_names.specs.declared.load_fault.LoadFault.TheVariants.{Refused, NoQuery, ReadFault, NoMemory}
 use Rattle.module_names.specs.declared.order.File.{File}
+use Rattle.module_names.specs.declared.order.Refused as told
+use Rattle.module_names.specs.Alone.{AreKept}
 use Rattle.module_names.specs.Counts.{OpenedAtMost, OpenedJust}
 use Rattle.module_names.specs.Loading.{Name, Sources, Files, most_files, loaded}
 use Rattle.module_names.specs.Remaining.{done_file, refusal_of}
@@ -31,10 +33,16 @@ abbrev pub AreHeld : {T : Type 0} → World → Files (Kept T) → Type 0
 AreHeld world [] = Unit {0}
 AreHeld world (f ∷ fs) = (file_of world f.0 ≡ Some f.1.rest.contents) × AreHeld world fs
 
--- so has each file that is answered
+-- a file of this world is refused so, of which these bytes are kept
+abbrev pub IsHeldOf : World → told.Refused → List ℕ → Type 0
+IsHeldOf world r contents =
+    (bytes : List ℕ) × (file_of world r.file ≡ Some bytes)
+    × AreKept r.code r.place bytes contents
+
+-- so has each file that is answered; of a refused one they are those that are kept
 abbrev pub HasContents : {T : Type 0} → World → Answered T → Type 0
 HasContents world (Ok files) = AreHeld world (map done_file files.items)
-HasContents world (Err (Refused r contents)) = file_of world r.file ≡ Some contents
+HasContents world (Err (Refused r contents)) = IsHeldOf world r contents
 HasContents world (Err _) = Unit {0}
 
 -- that there is no query is answered only where it is so

@@ -35,7 +35,7 @@ OpenedJust n before after =
     OpenedAtMost n before after
     × (after.opened < 2 ^ 64 - 1 → after.opened ≡ before.opened + n)
 
--- ---- of a read of a whole file, which may not be there
+-- ---- of a read of a file, which may not be there
 
 -- one more file was missing where there was no such file, and else none
 abbrev pub MissedBy : {T : Type 0} → Result (Option T) PieceFault → ℕ → ℕ → Type 0
@@ -73,13 +73,13 @@ abbrev pub MissesByCode : {T : Type 0} → Reader T → Code → ℕ → ℕ →
 MissesByCode reads code before after =
     (OtherCause reads code × (after ≡ before)) ⊎ ((code ≡ PJST0007) × RoseByOne before after)
 
--- one more file was missing where the query or a library was, and else none
+-- one more file was missing where the query or a library was, and else none; or memory ran out
 abbrev pub MissesBy : {T A : Type 0} → Reader T → Result A LoadFault → ℕ → ℕ → Type 0
 MissesBy reads (Ok x) before after = after ≡ before
 MissesBy reads (Err (Refused r contents)) before after = MissesByCode reads r.code before after
 MissesBy reads (Err NoQuery) before after = RoseByOne before after
 MissesBy reads (Err ReadFault) before after = after ≡ before
-MissesBy reads (Err NoMemory) before after = Unit {0}
+MissesBy reads (Err NoMemory) before after = after ≤ before + 1
 
 -- the faults rise where reading failed
 abbrev pub FaultsBy : {A : Type 0} → Result A LoadFault → ℕ → ℕ → Type 0

@@ -1,4 +1,5 @@
 pub mod Heads
+pub mod Bodies
 pub mod Places
 pub mod Loading
 pub mod Loaded

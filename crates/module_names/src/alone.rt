@@ -2,7 +2,7 @@
 
 ghost use Rattle.std.specs.Prelude.{◌≡◌};
 ghost use Rattle.std.specs.Fn.{FnReturnsAt};
-ghost use Rattle.module_names.specs.Alone.{IsRead, with_contents};
+ghost use Rattle.module_names.specs.Alone.{IsRead, most_read, with_contents};
 ghost use Rattle.module_names.specs.Remaining.{source_view};
 
 use crate::{Contents, Kept, Source};
@@ -10,6 +10,13 @@ use item_tree::Code;
 
 /// How many bytes a file may have, with a byte order mark.
 const MAX_LENGTH: usize = 1_048_576;
+
+/// How many bytes of a file are read at most: one more than it may have shows that it is too long.
+pub(crate) fn most_read() -> u64
+    ensures { result ≡ most_read }
+{
+    MAX_LENGTH as u64 + 1
+}
 
 /// Why a file is not read.
 #[derive(Clone, Copy, Debug, PartialEq, Eq)]

@@ -147,7 +147,7 @@ fn is_name(text: &str, token: &Token, name: &str) -> bool
     matches!(token.kind, TokenKind::Name) && is_spelled(text, token, name)
 }
 
-fn is_mark(text: &str, token: &Token, mark: &str) -> bool
+pub(crate) fn is_mark(text: &str, token: &Token, mark: &str) -> bool
     requires { IsTokenOf text.now token.now }
     ensures { result ≡ is_mark mark.now text.now token.now }
 {

@@ -3,6 +3,7 @@
 #![tactic(auto)]
 
 mod alone;
+mod body;
 mod file_bytes;
 mod head;
 pub mod laws;
@@ -14,6 +15,7 @@ mod places;
 mod wanted;
 
 pub use alone::Unread;
+pub use body::other_body;
 pub use file_bytes::{Contents, Kept, without_mark};
 pub use head::{HeadFault, Import, imports};
 pub use library_loading::load;

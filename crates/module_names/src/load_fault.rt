@@ -9,8 +9,9 @@ use line_pieces::PieceFault;
 /// Why a query is not loaded.
 #[derive(Debug, Drop)]
 pub enum LoadFault {
-    /// It is refused at a place of a file, which holds these bytes. The place counts after a byte
-    /// order mark.
+    /// It is refused at a place of a file, which holds these bytes; of one that is refused for its
+    /// length they are the first ones, which are more than it may have. The place counts after a
+    /// byte order mark.
     Refused(Refused, Contents),
     /// There is no file of the query's name.
     NoQuery,

@@ -4,7 +4,7 @@ ghost use Rattle.std.specs.Prelude.{◌≡◌, IfOk, IfSome};
 ghost use Rattle.std.specs.Fn.{FnReturnsAt};
 ghost use Rattle.module_names.specs.inside.Wanted.{IsFound, LeavesFound};
 
-use crate::alone::{keep, read_alone};
+use crate::alone::{keep, most_read, read_alone};
 use crate::opening::read_named;
 use crate::{Contents, Kept, Source, Unread};
 use item_tree::{Code, Str};
@@ -16,7 +16,7 @@ use std::alloc::Global;
 pub(crate) enum Found<T> {
     /// No file.
     Missing,
-    /// A file with these bytes, which is refused at this place.
+    /// A file which is refused at this place, with the bytes of it that were read.
     Refused(Code, u32, Contents),
     /// A file that was read.
     Read(Source<Kept<T>>),
@@ -36,7 +36,7 @@ pub(crate) fn read_file<I: Inputs, T: Drop, F: Fn(&str) -> Result<Source<T>, Unr
     ensures counts { LeavesFound (FnReturnsAt F.Fn read) result (I.counts inputs.old)
         (I.counts inputs.new) }
 {
-    let Some(bytes) = read_named(alloc, inputs, name.as_str())? else {
+    let Some(bytes) = read_named(alloc, inputs, name.as_str(), most_read())? else {
         return Ok(Found::Missing);
     };
     let contents = Contents::of(bytes);

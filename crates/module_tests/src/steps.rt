@@ -79,11 +79,11 @@ fn files_are_read_whole(rt: HostRuntime) -> Result<(), Fail> {
     ))?;
     assert!(rt; names_differ(&files));
     let mut inputs = MemInputs::steady(alloc, files)?;
-    let found = read_named(alloc, &mut inputs, "a").expect(&rt, "no fault");
+    let found = read_named(alloc, &mut inputs, "a", 100).expect(&rt, "no fault");
     let bytes = found.expect(&rt, "a file");
     assert_eq!(rt; bytes.as_slice(), b"\xef\xbb\xbftext".as_slice());
     assert_eq!(rt; without_mark(&bytes), b"text".as_slice());
-    let missing = read_named(alloc, &mut inputs, "b").expect(&rt, "no fault");
+    let missing = read_named(alloc, &mut inputs, "b", 100).expect(&rt, "no fault");
     assert!(rt; missing.is_none());
     Ok(())
 }

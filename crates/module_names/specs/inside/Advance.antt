@@ -1,12 +1,12 @@
 -- What a step of loading comes to, and the steps from some files on.
-use Rattle.std.specs.Prelude.{◌≡◌, ◌≤◌, ◌+◌, ℕ, List, [], ◌∷◌, map, length, Some, Result, Ok, Err}
+use Rattle.std.specs.Prelude.{◌≡◌, ◌≤◌, ◌+◌, ℕ, List, [], ◌∷◌, map, length, Result, Ok, Err}
 use Rattle.item_tree.specs.declared.code.Code.{Code}
 use Rattle.outside.specs.Opens.{InputCounts}
-use Rattle.outside.specs.World.{World, file_of}
+use Rattle.outside.specs.World.{World}
 use Rattle.module_names.specs.declared.file_bytes.Kept.{Kept}
 use Rattle.module_names.specs.declared.load_fault.LoadFault.{LoadFault}
 use Rattle.module_names.specs.declared.load_fault.LoadFault.TheVariants.{Refused, NoQuery, NoMemory}
-use Rattle.module_names.specs.Answers.{Answered, AreHeld}
+use Rattle.module_names.specs.Answers.{Answered, AreHeld, IsHeldOf}
 use Rattle.module_names.specs.Counts.{OpenedAtMost, OpenedJust}
 use Rattle.module_names.specs.Loading.{Sources, Files, most_files}
 use Rattle.module_names.specs.Remaining.{UnderWay, State, Remains, done_file, refusal_of}
@@ -37,7 +37,7 @@ StepsTo sources before after (Err _) = Unit {0}
 -- the files that are read have the bytes of this world, or the one that is refused has
 abbrev pub StaysHeld : {T A : Type 0} → World → Files (Kept T) → Result A LoadFault → Type 0
 StaysHeld world files (Ok x) = AreHeld world files
-StaysHeld world files (Err (Refused r contents)) = file_of world r.file ≡ Some contents
+StaysHeld world files (Err (Refused r contents)) = IsHeldOf world r contents
 StaysHeld world files (Err _) = Unit {0}
 
 -- how many files were opened, where there were so many before and are so many after

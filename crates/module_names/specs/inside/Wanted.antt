@@ -10,7 +10,7 @@ use Rattle.module_names.specs.declared.wanted.Found.{Found}
 use Rattle.module_names.specs.declared.wanted.Found.TheVariants.{Missing, Refused, Read}
 use Rattle.module_names.specs.declared.file_bytes.Kept.{Kept}
 use Rattle.module_names.specs.declared.order.Source as code
-use Rattle.module_names.specs.Alone.{Reader, IsRead, with_contents}
+use Rattle.module_names.specs.Alone.{Reader, IsRead, AreKept, with_contents}
 use Rattle.module_names.specs.Counts.{NoCountFalls, IsBalanced, OtherCause}
 use Rattle.module_names.specs.Loading.{Name}
 use Rattle.module_names.specs.Remaining.{source_view}
@@ -25,7 +25,8 @@ IsKept {T} reads bytes kept =
 abbrev pub IsFound : {T : Type 0} → Reader T → World → Name → Found T → Type 0
 IsFound reads w name Missing = file_of w name ≡ None
 IsFound reads w name (Refused code place contents) =
-    (file_of w name ≡ Some contents) × IsRead reads contents (Err (unread.Refused code place))
+    (bytes : List ℕ) × (file_of w name ≡ Some bytes) × AreKept code place bytes contents
+    × IsRead reads bytes (Err (unread.Refused code place))
 IsFound reads w name (Read source) =
     (file_of w name ≡ Some source.rest.contents) × IsKept reads source.rest.contents source
 

@@ -3,7 +3,7 @@ use Rattle.std.specs.Fn.{FnReturnsAt}
 use Rattle.std.proofs.lemmas.Result.{err_from_is_err_and}
 use Rattle.item_tree.specs.declared.code.Code.TheVariants.{PJST0007}
 use Rattle.module_names.specs.Remaining.{state_of, files_in, source_view}
-use Rattle.module_names.proofs.Stepping.{told_from, told_all, missing_told, unread_told, body_told, library_told, refused_held, library_held, missing_counts, body_counts, opened_fault, opened_short, opened_refused, opened_top, library_opened}
+use Rattle.module_names.proofs.Stepping.{told_from, told_all, missing_told, unread_told, body_told, library_told, refused_held, found_held, library_held, missing_counts, body_counts, opened_fault, opened_short, opened_refused, opened_top, library_opened}
 use Rattle.module_names.proofs.library_loading.add_wanted.Goals as goal
 
 pub returns-in_err-read_file-clause-opened : goal.returns-in_err-read_file-clause-opened
@@ -51,6 +51,13 @@ returns-in-Refused-clause-told g c =
     (λ w h sources before are asks.
     unread_told (Unit {0}) (FnReturnsAt g.F.Fn c.args.read) w before (state_of c.args.loading.now) before c.args.import c.refused.result
     c.in-Refused.code c.in-Refused.place c.count_files-opened.result c.in-Refused.contents c.count_files-opened.ensures c.refused.ensures h sources are asks) found
+
+pub returns-in-Refused-clause-held : goal.returns-in-Refused-clause-held
+returns-in-Refused-clause-held g c =
+    let found = rw c.in-Refused.is at c.in_ok-read_file.ensures.found in
+    told_from (g.I.Inputs.world c.args.inputs.now)
+    (λ w h held.
+    found_held (Unit {0}) (FnReturnsAt g.F.Fn c.args.read) w [] c.refused.result c.args.import.name c.in-Refused.code c.in-Refused.place _ c.in-Refused.contents c.refused.ensures h) found
 
 pub returns-in-Refused-clause-opened : goal.returns-in-Refused-clause-opened
 returns-in-Refused-clause-opened g c =

@@ -1,4 +1,4 @@
-use Rattle.std.proofs.Common.{Bool, Ok, Err, length, refl, ap, ◌∙◌}
+use Rattle.std.proofs.Common.{Bool, Ok, Err, length, refl, ap, ◌∙◌, arith}
 use Rattle.std.specs.Fn.{FnReturnsAt}
 use Rattle.std.proofs.lemmas.Result.{err_from_is_err_and}
 use Rattle.module_names.specs.Remaining.{state_of, files_in}
@@ -94,7 +94,7 @@ returns g c =
       world = before.world;
       told = told_all world (λ w sources are. tt);
       held = told_all world (λ w held. tt);
-      counts = record { faults = tt; misses = tt; falls = before.counts.falls; balanced = before.counts.balanced };
+      counts = record { faults = tt; misses = omega (arith, before.counts.misses); falls = before.counts.falls; balanced = before.counts.balanced };
       opened = out_of_steps g.row.T.Denot (length (files_in (state_of c.args.loading))) (length (files_in (state_of c.steps.loading))) c.steps.loading
           (g.I.Inputs.counts c.args.inputs.now) (g.I.Inputs.counts c.steps.inputs) before.opened;
     }

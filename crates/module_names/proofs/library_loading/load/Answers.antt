@@ -1,7 +1,7 @@
 use Rattle.std.proofs.Common.{length, refl}
 use Rattle.std.specs.Fn.{FnReturnsAt}
 use Rattle.module_names.specs.Remaining.{state_of, files_in}
-use Rattle.module_names.proofs.Finishing.{query_unread, query_told, query_held, query_opened, found_then, not_missing, query_refused}
+use Rattle.module_names.proofs.Finishing.{query_unread, query_kept, query_told, query_held, query_opened, found_then, not_missing, query_refused}
 use Rattle.module_names.proofs.Stepping.{told_from, told_from_two, told_all, unread_counts}
 use Rattle.module_names.proofs.library_loading.load.Goals as goal
 
@@ -12,6 +12,13 @@ returns-in_ok-copy-in-Refused-clause-told g c =
     told_from (g.I.Inputs.world c.args.inputs.now)
     (λ w h sources are.
     query_unread (FnReturnsAt g.F.Fn c.args.read) c.args.name.now w c.refused.result c.in-Refused.code c.in-Refused.place c.in-Refused.contents fault h sources are) found
+
+pub returns-in_ok-copy-in-Refused-clause-held : goal.returns-in_ok-copy-in-Refused-clause-held
+returns-in_ok-copy-in-Refused-clause-held g c =
+    let found = rw c.in-Refused.is at c.in_ok-read_file.ensures.found in
+    let fault = rw c.in_ok-copy-in-Refused.ensures at c.refused.ensures in
+    told_from (g.I.Inputs.world c.args.inputs.now)
+    (λ w h. query_kept (FnReturnsAt g.F.Fn c.args.read) c.args.name.now w c.refused.result c.in-Refused.code c.in-Refused.place c.in-Refused.contents fault h) found
 
 pub returns-in_ok-copy-in-Refused-clause-counts : goal.returns-in_ok-copy-in-Refused-clause-counts
 returns-in_ok-copy-in-Refused-clause-counts g c =
