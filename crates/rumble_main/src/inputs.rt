@@ -148,7 +148,7 @@ impl InputFile for FileInput {
     }
 }
 
-impl<R: Files<File = File>> Inputs for FileInputs<'_, R> {
+impl<R: Files<File = File> + Sync> Inputs for FileInputs<'_, R> {
     type File = FileInput;
 
     ghost world = { λ _. None };
