@@ -20,8 +20,11 @@ use Rattle.clause_eval.proofs.bindings.Binding.TheSendSync as binding
 use Rattle.line_pieces.proofs.cut.Cut.TheSendSync as cut
 use Rattle.piece_outcomes.specs.contracts.outcome.Counted as counted
 use Rattle.piece_outcomes.proofs.outcome.Counted.TheSendSync as counted_laws
+use Rattle.piece_outcomes.specs.contracts.outcome.OrderCounted as order_counted
+use Rattle.piece_outcomes.proofs.outcome.OrderCounted.TheSendSync as order_counted_laws
 use Rattle.query_tree.proofs.bound.Slot.TheSendSync as slot
 use Rattle.query_tree.proofs.clause.GroupVar.TheSendSync as group_var
+use Rattle.query_tree.proofs.clause.OrderKey.TheSendSync as order_key
 use Rattle.query_tree.proofs.names.Placed.TheSendSync as placed
 use Rattle.seq_types.proofs.types.SeqType.TheSendSync as types
 use Rattle.query_tree.proofs.Sharing.{shared_compiled, shared_tree, shared_expr}
@@ -29,6 +32,7 @@ use Rattle.piece_run.specs.contracts.came.CameOut as came
 use Rattle.piece_run.specs.contracts.stage.StageEnd as end
 use Rattle.piece_run.specs.contracts.stage.DrivenStage as stage
 use Rattle.piece_run.specs.contracts.job.DrivenJob as job
+use Rattle.piece_run.specs.contracts.order_job.DrivenOrderJob as order_job
 use Rattle.piece_run.proofs.SharedClauses.{shared_clause}
 
 ruleset parts = (sendable, crosses, vec.the_send, vec.the_sync, arc.the_send, arc.the_sync, option.the_send, option.the_sync, global.the_send, global.the_sync, str.the_send, str.the_sync)
@@ -48,6 +52,10 @@ came_sent a I kept = search (parts, frame_sent, option.the_field_send, sent, sen
 pub counted_sent : (a : Ref.NamedLft) (I : RattleType) → IsSend I
     → IsSend (counted.the_row (came.the_row a I))
 counted_sent a I kept = counted_laws.the_send (came.the_row a I) (came_sent a I kept)
+
+pub order_counted_sent : (a : Ref.NamedLft) (I : RattleType) → IsSend I
+    → IsSend (order_counted.the_row (came.the_row a I))
+order_counted_sent a I kept = order_counted_laws.the_send (came.the_row a I) (came_sent a I kept)
 
 sequence_field_seen : IsSync (sequence.the_field).row
 sequence_field_seen = search (parts, seen) depth 20
@@ -76,3 +84,8 @@ stage_field_seen a F f =
 pub job_seen : (a t : Ref.NamedLft) (F T S I : RattleType) → IsSync F → IsSync T → IsSync S
     → IsSync I → IsSync (job.the_row a t F T S I)
 job_seen a t F T S I f told s i = search (parts, stage_seen, stage_field_seen) depth 20
+
+pub order_job_seen : (a t : Ref.NamedLft) (F T S I : RattleType) → IsSync F → IsSync T → IsSync S
+    → IsSync I → IsSync (order_job.the_row a t F T S I)
+order_job_seen a t F T S I f told s i =
+    search (parts, stage_seen, stage_field_seen, order_key.the_sync, order_key.the_field_sync, shared_tree, shared_expr) depth 20

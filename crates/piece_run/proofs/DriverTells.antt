@@ -1,64 +1,121 @@
--- What a driver tells, as the outcomes of the code.
-use Rattle.std.proofs.Common.{◌≡◌, ℕ, ◌+◌, ◌-◌, ◌<◌, ◌≤◌, nat_lt, get_or, List, [], Result, Ok, Err, IfOk, refl, sym, subst, arith}
+-- What a stage that reads lines tells below a limit, as the outcomes of the code.
+use Rattle.std.proofs.Common.{◌≡◌, ℕ, ◌+◌, ◌-◌, ◌<◌, ◌≤◌, nat_lt, get_or, List, [], Vec, Result, Ok, Err, IfOk, refl, sym, subst, arith}
+use Rattle.std.specs.declared.alloc.Global.{Global}
+use Rattle.item_tree.specs.Datum.{Datum}
 use Rattle.item_tree.specs.declared.fault.Fault.{Fault}
-use Rattle.stage_laws.specs.Runs.{each_read}
-use Rattle.stage_laws.specs.Stages.{Stage, driver}
-use Rattle.stage_laws.specs.Pieces.{Follow, met, clean}
-use Rattle.stage_laws.specs.Laws.{Falls, IsCarry}
+use Rattle.item_reader.specs.Lines.{Line}
+use Rattle.seq_types.specs.declared.types.SeqType.{SeqType}
+use Rattle.tuple_rows.specs.Keys.{KeyList, Keyed}
+use Rattle.query_tree.specs.declared.bound.Slot.{Slot}
+use Rattle.query_tree.specs.declared.bound.Target.{Target}
+use Rattle.query_tree.specs.Plain.{PlainOrderKeys}
+use Rattle.query_meaning.specs.Orders.{column_places}
+use Rattle.query_meaning.specs.Outcome.{OrFault}
+use Rattle.stage_laws.specs.Ends.{in_order}
+use Rattle.stage_laws.specs.Pieces as laws
+use Rattle.stage_laws.specs.Laws.{IsCarry}
 use Rattle.stage_laws.proofs.Basics.{lt_true, picks}
-use Rattle.piece_outcomes.specs.Came.{Came, Seen}
-use Rattle.piece_outcomes.specs.Counting.{taken_by}
+use Rattle.clause_eval.specs.Frames.{tuples_of}
+use Rattle.clause_eval.specs.declared.tuples.Frame.{Frame}
+use Rattle.clause_stages.specs.Drivers.{numbered_lines}
+use Rattle.order_runs.specs.Seen as classes
+use Rattle.order_runs.specs.Seen.{SeenStandsFor}
+use Rattle.piece_outcomes.specs.Came.{Came, Seen, nothing_came, follow}
+use Rattle.piece_outcomes.specs.Counting.{met_of, taken_by}
+use Rattle.piece_outcomes.specs.Orders.{MetIs, clash_at}
+use Rattle.piece_outcomes.specs.Outcomes.{OutcomeIs}
+use Rattle.piece_outcomes.specs.declared.counts.Counts.{Counts}
+use Rattle.piece_outcomes.specs.declared.met.MetFault.{MetFault}
 use Rattle.piece_outcomes.specs.declared.outcome.Outcome.{Outcome}
 use Rattle.piece_outcomes.specs.declared.outcome.Outcome.TheVariants as own
+use Rattle.piece_outcomes.specs.declared.outcome.OrderOutcome.TheVariants as order
 use Rattle.piece_outcomes.specs.declared.outcome.Counted.{Counted}
-use Rattle.piece_outcomes.specs.Outcomes.{OutcomeIs}
-use Rattle.piece_run.specs.Outcomes.{IsOutcomeOf}
-use Rattle.piece_run.specs.Staged.{EndKeyedBy}
+use Rattle.piece_outcomes.specs.declared.outcome.OrderCounted.{OrderCounted}
+use Rattle.piece_run.specs.Driven.{MayBegin, stage_of, order_stage_of}
+use Rattle.piece_run.specs.DriverGives.{read_lines, GivesBelow}
+use Rattle.piece_run.specs.Ordering.{PlainOrder, OrderOutcomeIs, IsOrderOutcomeOf}
+use Rattle.piece_run.specs.Outcomes.{PlainOutcome, IsOutcomeOf}
+use Rattle.piece_run.specs.Staged.{EndKeyedBy, last_step, tuples_stage, ordered_stage}
 use Rattle.piece_run.specs.declared.came.CameOut.{CameOut}
+use Rattle.piece_run.specs.declared.driver.Driven.TheVariants as given
+use Rattle.piece_run.specs.declared.stage.DrivenStage.{DrivenStage}
 use Rattle.piece_run.specs.declared.stage.StageEnd as code
 use Rattle.piece_run.specs.declared.stage.StageEnd.TheVariants as end
-use Rattle.piece_run.proofs.Driving.{held_by, faulted, goes_on}
+use Rattle.piece_run.proofs.DriverCarries.{told_clean, told_met, told_next}
+use Rattle.piece_run.proofs.EndFalls.{tuples_fall, ordered_fall}
 
-module _ {A M W : Type 0} (stands : W → Came → Type 0) (n last : ℕ) (f : A → Result (List M) Fault) (rest : Stage M Came Seen Fault) (xs : List A) (limit : ℕ) (out : Counted W) (none : taken_by out.into n ≡ 0) where
-  -- nothing is told at a limit that is not past it
-  pub tells_clean : (empty : Came) (follow : Follow Came Seen Fault) → Falls (n + 1) last empty follow rest → n ≤ last → out.outcome ≡ own.Clean → limit ≤ n
-      → IsOutcomeOf stands n last (driver n f rest) xs limit out
-  tells_clean empty follow falls up is l = record {
-    plain = clean;
-    is = subst (λ o. OutcomeIs stands o clean) (sym is) tt;
-    carry = held_by n last f rest xs empty follow falls limit (taken_by out.into) l up none;
+-- no step before the first one took in a tuple
+pub none_before : (into : Counts) (first n : ℕ) → into.first ≡ first → n < first → taken_by into n ≡ 0
+none_before into first n e l =
+    let less : n < into.first = omega arith in
+    picks (nat_lt n into.first) 0 (get_or into.taken.items (n - into.first) 0) (lt_true n into.first less)
+
+-- ---- without an order
+
+module _ {F W : Type 0} (stands : W → Came → Type 0) (s : DrivenStage F) (first n limit : ℕ) (begins : MayBegin s.binding.at.now first n) (lines : List Line) (out : Counted W)
+    (none : (c : ℕ) → c < s.reading + 2 → taken_by out.into c ≡ 0) where
+  abbrev Told : Type 0
+  Told = IsOutcomeOf stands s.reading (last_step s) (stage_of s) (numbered_lines n lines) limit out
+
+  pub tells_clean : out.outcome ≡ own.Clean → GivesBelow s first limit (read_lines s lines) given.Clean → Told
+  tells_clean is h = record {
+    plain = laws.clean;
+    is = subst (λ o. OutcomeIs stands o laws.clean) (sym is) tt;
+    carry = told_clean s (tuples_stage s) nothing_came follow (tuples_fall s) first n limit begins lines (taken_by out.into) none (read_lines s lines) refl h;
   }
 
-  -- its own fault
-  pub tells_met : (fault : Fault) → out.outcome ≡ own.Met (record { step = n; tuple = 1; fault = fault })
-      → each_read {K = Seen} n f xs ≡ Err (record { step = n; tuple = 1; fault = fault; seen = [] }) → n < limit
-      → IsOutcomeOf stands n last (driver n f rest) xs limit out
-  tells_met fault is faults l = record {
-    plain = met (record { step = n; tuple = 1; fault = fault; seen = [] });
-    is = subst (λ o. OutcomeIs stands o (met (record { step = n; tuple = 1; fault = fault; seen = [] }))) (sym is) refl;
-    carry = faulted n last f rest xs limit (record { step = n; tuple = 1; fault = fault; seen = [] }) (taken_by out.into) faults l none;
+  pub tells_met : (m : MetFault) → out.outcome ≡ own.Met m → GivesBelow s first limit (read_lines s lines) (given.Met m) → Told
+  tells_met m is h = record {
+    plain = laws.met (met_of m);
+    is = subst (λ o. OutcomeIs stands o (laws.met (met_of m))) (sym is) refl;
+    carry = told_met s (tuples_stage s) nothing_came follow (tuples_fall s) first n limit begins lines (taken_by out.into) none m (read_lines s lines) refl h;
   }
 
-  -- what is after it
-  pub tells_next : (next : ℕ) (ys : List M) → next ≡ n + 1 → each_read {K = Seen} n f xs ≡ Ok ys → IsOutcomeOf stands next last rest ys limit out
-      → IsOutcomeOf stands n last (driver n f rest) xs limit out
-  tells_next next ys e is o = record {
+  pub tells_next : (frames : Vec Frame Global) (q : OrFault (List Datum)) → read_lines s lines ≡ q → GivesBelow s first limit q (given.Tuples frames)
+      → IsOutcomeOf stands (s.reading + 2) (last_step s) (tuples_stage s) (tuples_of frames) limit out → Told
+  tells_next frames (Ok items) is h o = record {
     plain = o.plain;
     is = o.is;
-    carry = goes_on n last f rest xs limit ys (record { outcome = o.plain; into = taken_by out.into }) is
-        (subst (λ (k : ℕ). IsCarry k last rest ys limit (record { outcome = o.plain; into = taken_by out.into })) e o.carry) none;
+    carry = told_next s (tuples_stage s) nothing_came follow (tuples_fall s) first n limit begins lines (taken_by out.into) none (tuples_of frames) items is h o.plain o.carry;
   }
+  tells_next frames (Err fault) is h o = absurd h
+
+-- ---- with an order
+
+module _ {F W : Type 0} (stands : W → Came → Type 0) (s : DrivenStage F) (keys : PlainOrderKeys Slot Target SeqType) (first n limit : ℕ) (begins : MayBegin s.binding.at.now first n) (lines : List Line)
+    (out : OrderCounted W) (none : (c : ℕ) → c < s.reading + 2 → taken_by out.into c ≡ 0) where
+  abbrev OrderTold : Type 0
+  OrderTold = IsOrderOutcomeOf stands s.reading (last_step s) (order_stage_of s keys) (numbered_lines n lines) limit out
+
+  pub order_clean : out.outcome ≡ order.Clean → GivesBelow s first limit (read_lines s lines) given.Clean → OrderTold
+  order_clean is h = record {
+    plain = laws.clean;
+    is = subst (λ o. OrderOutcomeIs stands o laws.clean) (sym is) tt;
+    carry = told_clean s (ordered_stage s keys) [] (in_order (last_step s) (clash_at (column_places keys))) (ordered_fall s keys) first n limit begins lines (taken_by out.into) none (read_lines s lines) refl h;
+  }
+
+  pub order_met : (m : MetFault) (seen : classes.Seen) → SeenStandsFor seen [] → out.outcome ≡ order.Met m seen → GivesBelow s first limit (read_lines s lines) (given.Met m) → OrderTold
+  order_met m seen saw is h = record {
+    plain = laws.met (met_of m);
+    is = subst (λ o. OrderOutcomeIs stands o (laws.met (met_of m))) (sym is) (record { step = refl; tuple = refl; fault = refl }, saw);
+    carry = told_met s (ordered_stage s keys) [] (in_order (last_step s) (clash_at (column_places keys))) (ordered_fall s keys) first n limit begins lines (taken_by out.into) none m (read_lines s lines) refl h;
+  }
+
+  pub order_next : (frames : Vec Frame Global) (q : OrFault (List Datum)) → read_lines s lines ≡ q → GivesBelow s first limit q (given.Tuples frames)
+      → IsOrderOutcomeOf stands (s.reading + 2) (last_step s) (ordered_stage s keys) (tuples_of frames) limit out → OrderTold
+  order_next frames (Ok items) is h o = record {
+    plain = o.plain;
+    is = o.is;
+    carry = told_next s (ordered_stage s keys) [] (in_order (last_step s) (clash_at (column_places keys))) (ordered_fall s keys) first n limit begins lines (taken_by out.into) none (tuples_of frames) items is h o.plain o.carry;
+  }
+  order_next frames (Err fault) is h o = absurd h
+
+-- ---- two facts of an answer, and keys
 
 -- two facts of an answer give a third
 pub on_ok : {A E : Type 0} (P Q R : A → Type 0) (r : Result A E) → IfOk r P → IfOk r Q → ((x : A) → P x → Q x → R x) → IfOk r R
 on_ok P Q R (Ok x) p q f = f x p q
 on_ok P Q R (Err e) p q f = tt
-
--- no step before the first one took in a tuple
-pub none_before : {W : Type 0} (out : Counted W) (first n : ℕ) → out.into.first ≡ first → n < first → taken_by out.into n ≡ 0
-none_before out first n e l =
-    let less : n < out.into.first = omega arith in
-    picks (nat_lt n out.into.first) 0 (get_or out.into.taken.items (n - out.into.first) 0) (lt_true n out.into.first less)
 
 -- where nothing came out, no key is missing
 pub clean_keyed : {I : Type 0} (e : code.StageEnd) (o : Outcome (CameOut I)) → o ≡ own.Clean → EndKeyedBy e o
@@ -66,7 +123,7 @@ clean_keyed (end.Items body) o h = tt
 clean_keyed end.Numbers o h = tt
 clean_keyed (end.Groups keys) o h = subst (EndKeyedBy (end.Groups keys)) (sym h) tt
 
-pub met_keyed : {I : Type 0} (e : code.StageEnd) (o : Outcome (CameOut I)) (n : ℕ) (fault : Fault) → o ≡ own.Met (record { step = n; tuple = 1; fault = fault }) → EndKeyedBy e o
-met_keyed (end.Items body) o n fault h = tt
-met_keyed end.Numbers o n fault h = tt
-met_keyed (end.Groups keys) o n fault h = subst (EndKeyedBy (end.Groups keys)) (sym h) tt
+pub met_keyed : {I : Type 0} (e : code.StageEnd) (o : Outcome (CameOut I)) (m : MetFault) → o ≡ own.Met m → EndKeyedBy e o
+met_keyed (end.Items body) o m h = tt
+met_keyed end.Numbers o m h = tt
+met_keyed (end.Groups keys) o m h = subst (EndKeyedBy (end.Groups keys)) (sym h) tt

@@ -3,28 +3,34 @@ use Rattle.std.proofs.Common.{◌≡◌, ℕ, zero, suc, ◌+◌, ◌<◌, ◌�
 use Rattle.item_tree.specs.Datum.{Datum}
 use Rattle.item_reader.specs.Lines.{Line}
 use Rattle.line_pieces.specs.Pieces.{told_piece}
+use Rattle.seq_types.specs.declared.types.SeqType.{SeqType}
+use Rattle.tuple_rows.specs.Keys.{KeyList, Keyed}
 use Rattle.query_tree.specs.declared.bound.Slot.{Slot}
+use Rattle.query_tree.specs.declared.bound.Target.{Target}
 use Rattle.query_tree.specs.declared.names.Placed.{Placed}
+use Rattle.query_tree.specs.Plain.{PlainOrderKeys}
+use Rattle.query_meaning.specs.Orders.{column_places}
 use Rattle.fault_merge.specs.declared.done.Done.{Done}
+use Rattle.stage_laws.specs.Ends.{in_order}
 use Rattle.stage_laws.specs.Laws.{Falls}
-use Rattle.stage_laws.proofs.Steps.{driver_falls}
-use Rattle.clause_stages.specs.Drivers.{numbered_lines, placed_item}
-use Rattle.clause_stages.specs.InputLines.{line_read}
+use Rattle.clause_stages.specs.Drivers.{numbered_lines}
 use Rattle.board_core.specs.declared.event.CoreEvent.{CoreEvent}
 use Rattle.piece_board.specs.Whole.{IsWhole}
 use Rattle.piece_outcomes.specs.Came.{Came, Seen, nothing_came, follow}
-use Rattle.piece_outcomes.specs.Counting.{told_step}
+use Rattle.piece_outcomes.specs.Counting.{told_step, order_told_step}
+use Rattle.piece_outcomes.specs.Orders.{clash_at, IsWide}
 use Rattle.piece_outcomes.specs.declared.outcome.Counted.{Counted}
-use Rattle.piece_run.specs.Driven.{MayBegin, items_stage, stage_of}
-use Rattle.piece_run.specs.Gathering.{OnPieces, lines_before, numbered_piece}
-use Rattle.piece_run.specs.Inputs.{RunsAreWhole}
-use Rattle.piece_run.specs.Outcomes.{CameIs, IsOutcomeOf}
+use Rattle.piece_outcomes.specs.declared.outcome.OrderCounted.{OrderCounted}
 use Rattle.piece_seats.specs.Seats.{first_line}
-use Rattle.piece_run.specs.Seats.{IsOfLines, IsKeyedPiece}
-use Rattle.piece_run.specs.Staged.{last_step}
+use Rattle.piece_run.specs.Driven.{MayBegin, stage_of, order_stage_of}
+use Rattle.piece_run.specs.Gathering.{OnPieces, IsWideOutcomeOf, lines_before, numbered_piece}
+use Rattle.piece_run.specs.Inputs.{RunsAreWhole, OrdersAreWhole, orders_on_pieces}
+use Rattle.piece_run.specs.Outcomes.{CameIs, IsOutcomeOf}
+use Rattle.piece_run.specs.Seats.{IsOfLines, IsKeyedPiece, IsOrderOfLines, IsWidePiece}
+use Rattle.piece_run.specs.Staged.{last_step, tuples_stage, ordered_stage}
 use Rattle.piece_run.specs.declared.came.CameOut.{CameOut}
 use Rattle.piece_run.specs.declared.stage.DrivenStage.{DrivenStage}
-use Rattle.piece_run.proofs.EndFalls.{items_fall}
+use Rattle.piece_run.proofs.EndFalls.{tuples_fall, ordered_fall, driven_fall}
 use Rattle.piece_run.proofs.Numbering.{pieces_are_numbered}
 use Rattle.piece_run.proofs.WholeRuns.{lists_chosen}
 
@@ -46,9 +52,10 @@ good_as tells good other total full done events h w = record {
 }
 
 stage_falls : {F : Type 0} (s : DrivenStage F) → Falls s.reading (last_step s) nothing_came follow (stage_of s)
-stage_falls s =
-    let up : s.reading ≤ last_step s = omega arith in
-    driver_falls s.reading (s.reading + 1) (last_step s) nothing_came follow (placed_item (line_read s.place)) (items_stage s) (items_fall s) (omega arith) up
+stage_falls s = driven_fall s nothing_came follow (tuples_stage s) (tuples_fall s)
+
+order_falls : {F : Type 0} (s : DrivenStage F) (keys : PlainOrderKeys Slot Target SeqType) → Falls s.reading (last_step s) [] (in_order (last_step s) (clash_at (column_places keys))) (order_stage_of s keys)
+order_falls s keys = driven_fall s [] (in_order (last_step s) (clash_at (column_places keys))) (ordered_stage s keys) (ordered_fall s keys)
 
 may_begin : (at : Option (Placed Slot)) (n : ℕ) → MayBegin at n n
 may_begin None n = tt
@@ -86,4 +93,40 @@ runs_are_whole {I = I} F stands = record {
         subst (λ (ls : List Line). IsOfLines stands s ls p limit out) same k.of_piece.outcome (lines_before lines p + 1) (are.numbers p low)) w;
   };
   runs = λ s source total lines. ap (stage_of s).run (pieces_are_numbered lines total);
+}
+
+pub orders_are_whole : {I : Type 0} (F : Type 0) (stands : I → List Datum → Type 0) → OrdersAreWhole F stands
+orders_are_whole {I = I} F stands = record {
+  some = λ s keys told total pieces w.
+      let full = last_step s + 1 in
+      let ds = pieces.done.items in
+      let events = pieces.events.items in
+      let width = length (column_places keys) in
+      let of : List Line → ℕ → ℕ → OrderCounted (CameOut I) → Type 0 = λ ls p limit out. IsOrderOfLines stands s keys ls p limit out × IsWide width out.outcome in
+      let kept = good_as order_told_step (IsWidePiece stands s keys told) (λ p limit out. (ls : List Line) × of ls p limit out) total full ds events
+      (λ p limit out low k. (k.of_piece.lines, (k.of_piece.outcome, k.wide))) w in
+      let chosen = lists_chosen [] order_told_step of total full ds events kept in
+      let lists : ℕ → List (ℕ × Line) = λ p. numbered_lines (first_line s.before.now p) (chosen.0 p) in
+      let o : OnPieces (List Keyed) KeyList = record { first = s.reading; last = last_step s; stage = order_stage_of s keys; total = total; lists = lists } in (
+        o,
+        refl,
+        record {
+          falls = order_falls s keys;
+          outputs = good_as order_told_step (λ p limit out. of (chosen.0 p) p limit out) (IsWideOutcomeOf (CameIs stands) width o) total full ds events
+              (λ p limit out low k.
+              record { outcome = k.0 (first_line s.before.now p) (may_begin s.binding.at.now (first_line s.before.now p)); wide = k.1 }) chosen.1;
+        },
+      );
+  told = λ s keys told total lines pieces are w. record {
+    falls = order_falls s keys;
+    outputs = good_as order_told_step (IsWidePiece stands s keys told) (IsWideOutcomeOf (CameIs stands) (length (column_places keys)) (orders_on_pieces s keys total lines))
+        total (last_step s + 1) pieces.done.items pieces.events.items
+        (λ p limit out low k.
+        let same = of_told (told_piece s.cut.now told p) k.of_piece.lines (lines p) (are.pieces p low) k.of_piece.are in
+        record {
+          outcome = subst (λ (ls : List Line). IsOrderOfLines stands s keys ls p limit out) same k.of_piece.outcome (lines_before lines p + 1) (are.numbers p low);
+          wide = k.wide;
+        }) w;
+  };
+  runs = λ s keys source total lines. ap (order_stage_of s keys).run (pieces_are_numbered lines total);
 }

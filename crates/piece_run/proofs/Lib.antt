@@ -7,8 +7,9 @@ pub mod OrderedNext
 mod GroupKeys
 mod Driving
 mod Bridges
-mod DriverTells
 mod EndFalls
+mod DriverCarries
+mod DriverTells
 mod ToldBelow
 mod Within
 pub mod WholeRuns

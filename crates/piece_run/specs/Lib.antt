@@ -8,6 +8,7 @@ pub mod Stages
 pub mod Staged
 pub mod HaveKeys
 pub mod Driven
+pub mod DriverGives
 pub mod Seats
 pub mod Gathering
 pub mod Meanings

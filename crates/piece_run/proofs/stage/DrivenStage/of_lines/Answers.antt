@@ -1,44 +1,31 @@
-use Rattle.std.proofs.Common.{◌≡◌, ◌+◌, ◌<◌, ◌≤◌, Ok, Err, refl, subst, arith}
-use Rattle.query_meaning.specs.inside.Gives.{Gives, FailsAs}
-use Rattle.query_meaning.specs.inside.Views.{values_of}
-use Rattle.query_meaning.specs.Outcome.{each}
-use Rattle.clause_stages.specs.Drivers.{numbered_lines, line_item, placed_item}
-use Rattle.clause_stages.specs.InputLines.{line_read}
-use Rattle.piece_outcomes.specs.Came.{Seen, nothing_came, follow}
-use Rattle.piece_run.specs.Staged.{last_step}
-use Rattle.piece_run.specs.Driven.{items_stage}
-use Rattle.piece_run.proofs.Bridges.{lines_read, line_faults}
-use Rattle.piece_run.proofs.DriverTells.{tells_clean, tells_met, tells_next, on_ok}
-use Rattle.piece_run.proofs.EndFalls.{items_fall}
+use Rattle.std.proofs.Common.{◌+◌, refl, subst}
+use Rattle.piece_outcomes.specs.declared.outcome.Outcome.TheVariants as outcome
+use Rattle.piece_run.specs.DriverGives.{GivesBelow, read_lines}
+use Rattle.piece_run.specs.declared.driver.Driven.{Driven}
+use Rattle.piece_run.proofs.DriverTells.{tells_clean, tells_met, tells_next, on_ok, none_before}
 use Rattle.piece_run.proofs.stage.DrivenStage.of_lines.Goals as goal
 
-pub returns-then-limit-self-clause-outcome : goal.returns-then-limit-self-clause-outcome
-returns-then-limit-self-clause-outcome g c = λ n begins.
-    let s = c.args.self.now in
-    let up : s.reading ≤ last_step s = omega arith in
-    let l : c.args.limit ≤ s.reading = omega arith in
-    tells_clean _ s.reading (last_step s) (placed_item (line_read s.place)) (items_stage s) (numbered_lines n c.args.lines) c.args.limit c.clean.result (c.clean.ensures.into s.reading)
-    nothing_came follow (items_fall s) up c.clean.ensures.outcome l
+pub returns-in-Tuples-clause-outcome : goal.returns-in-Tuples-clause-outcome
+returns-in-Tuples-clause-outcome g c =
+    let s = c.args.self.now in let q = read_lines s c.args.lines in
+    on_ok _ _ _ c.carry_tuples.result c.carry_tuples.ensures.outcome c.carry_tuples.ensures.first
+    (λ out is starts n begins.
+    tells_next _ s c.args.first n c.args.limit begins c.args.lines out (λ k l. none_before out.into (s.reading + 2) k starts l) c.in-Tuples.frames q refl
+    (subst (λ (d : Driven). GivesBelow s c.args.first c.args.limit q d) c.in-Tuples.is c.in_ok-frames.ensures) is)
 
-pub returns-in-Ok-clause-outcome : goal.returns-in-Ok-clause-outcome
-returns-in-Ok-clause-outcome g c =
-    let s = c.args.self.now in let ls = c.args.lines in let xs = values_of c.in-Ok.items in
-    let read : each (line_item (line_read s.place)) ls ≡ Ok xs =
-    subst (λ r. Gives values_of r (each (line_item (line_read s.place)) ls)) c.in-Ok.is c.read_items.ensures in
-    let l : s.reading < s.reading + 2 = omega arith in
-    on_ok _ _ _ c.of_items.result c.of_items.ensures.outcome c.of_items.ensures.before
-    (λ out is none n begins.
-    tells_next _ s.reading (last_step s) (placed_item (line_read s.place)) (items_stage s) (numbered_lines n ls) c.args.limit out (none s.reading l)
-    (s.reading + 1) (numbered_lines n xs) refl
-    (lines_read Seen s.reading (line_read s.place) n ls xs read) (is n begins))
+pub returns-in-Tuples-clause-before : goal.returns-in-Tuples-clause-before
+returns-in-Tuples-clause-before g c =
+    on_ok _ _ _ c.carry_tuples.result c.carry_tuples.ensures.first c.carry_tuples.ensures.first
+    (λ out starts again n l. none_before out.into (c.args.self.now.reading + 2) n starts l)
 
-pub returns-in-Err-Raised-clause-outcome : goal.returns-in-Err-Raised-clause-outcome
-returns-in-Err-Raised-clause-outcome g c = λ n begins.
-    let s = c.args.self.now in let ls = c.args.lines in let fault = c.in-Err-Raised.fault in
-    let meant = each (line_item (line_read s.place)) ls in
-    let faults : each (line_item (line_read s.place)) ls ≡ Err fault =
-    subst (λ f. FailsAs f meant) c.in-Err-Raised.field-0-is (subst (λ r. Gives values_of r meant) c.in-Err-Raised.is c.read_items.ensures) in
-    let l : s.reading < c.args.limit = omega arith in
-    tells_met _ s.reading (last_step s) (placed_item (line_read s.place)) (items_stage s) (numbered_lines n ls) c.args.limit c.met.result (c.met.ensures.into s.reading)
-    fault c.met.ensures.outcome
-    (line_faults Seen s.reading (line_read s.place) n ls fault faults) l
+pub returns-in-Met-clause-outcome : goal.returns-in-Met-clause-outcome
+returns-in-Met-clause-outcome g c = λ n begins.
+    let s = c.args.self.now in let q = read_lines s c.args.lines in
+    tells_met _ s c.args.first n c.args.limit begins c.args.lines (record { outcome = outcome.Met c.in-Met.met; into = c.none_taken.result }) (λ k l. c.none_taken.ensures k) c.in-Met.met refl
+    (subst (λ (d : Driven). GivesBelow s c.args.first c.args.limit q d) c.in-Met.is c.in_ok-frames.ensures)
+
+pub returns-in-Clean-clause-outcome : goal.returns-in-Clean-clause-outcome
+returns-in-Clean-clause-outcome g c = λ n begins.
+    let s = c.args.self.now in let q = read_lines s c.args.lines in
+    tells_clean _ s c.args.first n c.args.limit begins c.args.lines (record { outcome = outcome.Clean; into = c.none_taken-in-Clean.result }) (λ k l. c.none_taken-in-Clean.ensures k) refl
+    (subst (λ (d : Driven). GivesBelow s c.args.first c.args.limit q d) c.in-Clean.is c.in_ok-frames.ensures)
