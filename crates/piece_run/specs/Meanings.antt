@@ -12,9 +12,10 @@ use Rattle.query_tree.specs.Bound.{BoundTree}
 use Rattle.query_tree.specs.Scoped.{and_slots}
 use Rattle.query_tree.specs.Plain as p
 use Rattle.query_tree.specs.Plain.{PlainClause, PlainClauses, PlainGroupVars, PlainOrderKeys}
-use Rattle.query_meaning.specs.Outcome.{OrFault, each}
+use Rattle.query_meaning.specs.Outcome.{OrFault, Outcome, ◌>>=◌, each}
 use Rattle.query_meaning.specs.Environment.{Tuple, Environment, Inner, in_tuple}
-use Rattle.query_meaning.specs.Flwors.{flwor_from}
+use Rattle.query_meaning.specs.Clauses.{clause_value}
+use Rattle.query_meaning.specs.Flwors.{with_slots, flwor_from}
 use Rattle.query_meaning.specs.Orders.{column_places}
 use Rattle.query_meaning.specs.Pieces.{are_narrow}
 use Rattle.stage_laws.specs.Runs.{Met}
@@ -23,7 +24,7 @@ use Rattle.stage_laws.specs.Ends.{ended_by, in_order}
 use Rattle.stage_laws.specs.Laws.{Falls}
 use Rattle.clause_stages.specs.Steps.{TupleStage, clauses_stage}
 use Rattle.clause_stages.specs.Ends.{numbered, grouped, orders_step, in_key_order}
-use Rattle.clause_stages.specs.Values.{how_many, behind_clauses}
+use Rattle.clause_stages.specs.Values.{how_many, and_clauses, behind_clauses}
 use Rattle.clause_stages.specs.Laws.{clause_end}
 use Rattle.clause_stages.specs.Drivers.{numbered_lines, line_item, driven_stage, driver_marked}
 use Rattle.clause_stages.specs.InputLines.{line_read}
@@ -50,18 +51,22 @@ pub record LinesFor : Type 0 where
   pub tuple : Tuple
   pub clauses : PlainClauses Slot Target SeqType
 
+-- the `for`
+abbrev pub for_of : LinesFor → PlainClause Slot Target SeqType
+for_of d = p.for_clause d.variable d.of false d.at d.source
+
 -- the clauses from the `for` on
 abbrev pub all_clauses : LinesFor → PlainClauses Slot Target SeqType
-all_clauses d = p.more_clauses (p.for_clause d.variable d.of false d.at d.source) d.clauses
+all_clauses d = p.more_clauses (for_of d) d.clauses
 
 -- what is bound after these clauses, where those before them bind these slots
 abbrev pub bound_after : LinesFor → List Slot → List Slot
 bound_after d stream = and_slots stream (all_clauses d)
 
--- the source gives the items of these lines
-abbrev pub GivesLines : LinesFor → List Line → Type 0
-GivesLines d lines =
-    d.inner d.source (in_tuple d.env d.tuple) ≡ each (line_item (line_read d.place)) lines
+-- the source, which is evaluated so, gives the items of these lines
+abbrev pub GivesLines : Inner → LinesFor → List Line → Type 0
+GivesLines outer d lines =
+    outer d.source (in_tuple d.env d.tuple) ≡ each (line_item (line_read d.place)) lines
 
 -- the stage of these clauses, where it ends in this step
 abbrev pub input_stage : {B K : Type 0} → LinesFor → (ℕ → TupleStage B K)
@@ -94,38 +99,60 @@ abbrev pub lines_ended : {B C K : Type 0} → LinesFor → (B → OrFault C) →
     → OrFault C
 lines_ended d finish r = ended_by (driver_marked (d.reading + 1)) finish r
 
--- what the clauses come to, and after them `count`, `group by` or `order by`
-abbrev pub clauses_to : LinesFor → List Slot → PlainClause Slot Target SeqType
+-- what is made of the tuples of the `for`, whose source is evaluated by `outer`
+abbrev pub for_then : {C : Type 0} → Inner → LinesFor → List Slot → (List Tuple → OrFault C)
+    → OrFault C
+for_then outer d stream next =
+    clause_value outer (d.reading + 1) stream (for_of d) d.env (d.tuple ∷ []) >>= next
+
+-- what comes of the `for`, of these clauses after it, and of `return`
+abbrev pub from_for : Inner → LinesFor → List Slot → PlainClauses Slot Target SeqType → BoundTree
+    → Outcome
+from_for outer d stream clauses body =
+    for_then outer d stream
+    (flwor_from d.inner (d.reading + 2) (with_slots stream (for_of d)) clauses body d.env)
+
+-- what comes of the `for` and the narrow clauses after it, and after them of `count`, `group by` or
+-- `order by`
+abbrev pub clauses_to : Inner → LinesFor → List Slot → PlainClause Slot Target SeqType
     → OrFault (List Tuple)
-clauses_to d stream c =
-    behind_clauses d.inner (d.reading + 1) stream (all_clauses d) d.env (clause_end d.inner c d.env)
-    (d.tuple ∷ [])
+clauses_to outer d stream c =
+    for_then outer d stream
+    (behind_clauses d.inner (d.reading + 2) (with_slots stream (for_of d)) d.clauses d.env
+    (clause_end d.inner c d.env))
 
 -- What is finished of what the stage makes of the lines is what is meant by the clauses and
--- `return`, `count`, `group by` or `order by` after them.
+-- `return`, `count`, `group by` or `order by` after them. The source alone may be evaluated in
+-- another way than the rest. What was gathered goes on into the clauses after that.
 pub record DrivenStagesGiveValues : Type 0 where
-  pub items : (d : LinesFor) (stream : List Slot) (lines : List Line) (body : BoundTree)
-      → GivesLines d lines → are_narrow d.clauses ≡ true
-      → flwor_from d.inner (d.reading + 1) stream (all_clauses d) body d.env (d.tuple ∷ [])
+  pub items : (outer : Inner) (d : LinesFor) (stream : List Slot) (lines : List Line)
+      (body : BoundTree) → GivesLines outer d lines → are_narrow d.clauses ≡ true
+      → from_for outer d stream d.clauses body
       ≡ lines_ended d (λ came. Ok came.items)
       (lines_run d (end_step d.inner d.env (items body)) lines)
-  pub numbers : (d : LinesFor) (stream : List Slot) (lines : List Line) (place : ℕ)
-      (variable : Placed Slot) → GivesLines d lines → are_narrow d.clauses ≡ true
-      → clauses_to d stream (p.count_clause place variable)
+  pub numbers : (outer : Inner) (d : LinesFor) (stream : List Slot) (lines : List Line) (place : ℕ)
+      (variable : Placed Slot) → GivesLines outer d lines → are_narrow d.clauses ≡ true
+      → clauses_to outer d stream (p.count_clause place variable)
       ≡ lines_ended d (λ came. Ok (numbered variable came.tuples))
       (lines_run d (end_step d.inner d.env numbers) lines)
-  pub groups : (d : LinesFor) (stream : List Slot) (lines : List Line) (place : ℕ)
-      (keys : PlainGroupVars Slot Target SeqType) → GivesLines d lines
+  pub groups : (outer : Inner) (d : LinesFor) (stream : List Slot) (lines : List Line) (place : ℕ)
+      (keys : PlainGroupVars Slot Target SeqType) → GivesLines outer d lines
       → are_narrow d.clauses ≡ true
-      → clauses_to d stream (p.group_clause place keys)
+      → clauses_to outer d stream (p.group_clause place keys)
       ≡ lines_ended d (λ came. Ok (grouped keys d.env (bound_after d stream) came.keyed))
       (lines_run d (end_step d.inner d.env (groups keys)) lines)
-  pub orders : (d : LinesFor) (stream : List Slot) (lines : List Line) (place : ℕ)
-      (stable : Bool) (keys : PlainOrderKeys Slot Target SeqType) → GivesLines d lines
+  pub orders : (outer : Inner) (d : LinesFor) (stream : List Slot) (lines : List Line) (place : ℕ)
+      (stable : Bool) (keys : PlainOrderKeys Slot Target SeqType) → GivesLines outer d lines
       → are_narrow d.clauses ≡ true
-      → clauses_to d stream (p.order_clause place stable keys)
+      → clauses_to outer d stream (p.order_clause place stable keys)
       ≡ lines_ended d (λ keyed. Ok (in_key_order keys keyed))
       (lines_run d (orders_step d.inner keys d.env) lines)
+  pub goes_on : (outer : Inner) (d : LinesFor) (stream : List Slot)
+      (c : PlainClause Slot Target SeqType) (rest : PlainClauses Slot Target SeqType)
+      (body : BoundTree)
+      → from_for outer d stream (and_clauses d.clauses (p.more_clauses c rest)) body
+      ≡ (clauses_to outer d stream c >>= flwor_from d.inner (end_number d + 1)
+      (with_slots (bound_after d stream) c) rest body d.env)
 
 -- Clauses see no frame but those of their tuples: of the frame outside, they use its length.
 abbrev pub FramesAreTuples : Type 0
