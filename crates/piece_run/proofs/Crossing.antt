@@ -26,7 +26,6 @@ use Rattle.query_tree.proofs.bound.Slot.TheSendSync as slot
 use Rattle.query_tree.proofs.clause.GroupVar.TheSendSync as group_var
 use Rattle.query_tree.proofs.clause.OrderKey.TheSendSync as order_key
 use Rattle.query_tree.proofs.names.Placed.TheSendSync as placed
-use Rattle.seq_types.proofs.types.SeqType.TheSendSync as types
 use Rattle.query_tree.proofs.Sharing.{shared_compiled, shared_tree, shared_expr}
 use Rattle.piece_run.specs.contracts.came.CameOut as came
 use Rattle.piece_run.specs.contracts.stage.StageEnd as end

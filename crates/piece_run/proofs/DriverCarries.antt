@@ -1,6 +1,6 @@
 -- What a driver gives below a limit, and what is told after it of its tuples, is what is told of
 -- the stage.
-use Rattle.std.proofs.Common.{◌≡◌, ℕ, ◌+◌, ◌-◌, ◌<◌, ◌≤◌, nat_lt, get_or, List, [], Result, Ok, Err, IfOk, refl, sym, ap, ◌∙◌, subst, arith}
+use Rattle.std.proofs.Common.{◌≡◌, ℕ, ◌+◌, ◌<◌, ◌≤◌, List, [], Ok, Err, refl, sym, ap, ◌∙◌, subst, arith}
 use Rattle.item_tree.specs.Datum.{Datum}
 use Rattle.item_tree.specs.declared.fault.Fault.{Fault}
 use Rattle.item_reader.specs.Lines.{Line}
@@ -12,14 +12,11 @@ use Rattle.stage_laws.specs.Stages.{Stage, driver}
 use Rattle.stage_laws.specs.Pieces as laws
 use Rattle.stage_laws.specs.Pieces.{Counted, Follow}
 use Rattle.stage_laws.specs.Laws.{Falls, IsCarry}
-use Rattle.stage_laws.proofs.Basics.{lt_true, picks}
 use Rattle.stage_laws.proofs.Steps.{driver_falls}
 use Rattle.clause_stages.specs.Drivers.{numbered_lines, placed_item, item_tuple}
 use Rattle.clause_stages.specs.InputLines.{line_read}
 use Rattle.clause_stages.specs.Steps.{TupleStage}
-use Rattle.clause_eval.specs.Frames.{tuples_of}
-use Rattle.piece_outcomes.specs.Counting.{met_of, taken_by}
-use Rattle.piece_outcomes.specs.declared.counts.Counts.{Counts}
+use Rattle.piece_outcomes.specs.Counting.{met_of}
 use Rattle.piece_outcomes.specs.declared.met.MetFault.{MetFault}
 use Rattle.piece_run.specs.Driven.{MayBegin, driven_by}
 use Rattle.piece_run.specs.DriverGives.{read_lines, bind_items, GivesBelow}

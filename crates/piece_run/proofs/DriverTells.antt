@@ -1,11 +1,9 @@
 -- What a stage that reads lines tells below a limit, as the outcomes of the code.
-use Rattle.std.proofs.Common.{◌≡◌, ℕ, ◌+◌, ◌-◌, ◌<◌, ◌≤◌, nat_lt, get_or, List, [], Vec, Result, Ok, Err, IfOk, refl, sym, subst, arith}
+use Rattle.std.proofs.Common.{◌≡◌, ℕ, ◌+◌, ◌-◌, ◌<◌, nat_lt, get_or, List, [], Vec, Result, Ok, Err, IfOk, refl, sym, subst, arith}
 use Rattle.std.specs.declared.alloc.Global.{Global}
 use Rattle.item_tree.specs.Datum.{Datum}
-use Rattle.item_tree.specs.declared.fault.Fault.{Fault}
 use Rattle.item_reader.specs.Lines.{Line}
 use Rattle.seq_types.specs.declared.types.SeqType.{SeqType}
-use Rattle.tuple_rows.specs.Keys.{KeyList, Keyed}
 use Rattle.query_tree.specs.declared.bound.Slot.{Slot}
 use Rattle.query_tree.specs.declared.bound.Target.{Target}
 use Rattle.query_tree.specs.Plain.{PlainOrderKeys}
@@ -13,16 +11,15 @@ use Rattle.query_meaning.specs.Orders.{column_places}
 use Rattle.query_meaning.specs.Outcome.{OrFault}
 use Rattle.stage_laws.specs.Ends.{in_order}
 use Rattle.stage_laws.specs.Pieces as laws
-use Rattle.stage_laws.specs.Laws.{IsCarry}
 use Rattle.stage_laws.proofs.Basics.{lt_true, picks}
 use Rattle.clause_eval.specs.Frames.{tuples_of}
 use Rattle.clause_eval.specs.declared.tuples.Frame.{Frame}
 use Rattle.clause_stages.specs.Drivers.{numbered_lines}
 use Rattle.order_runs.specs.Seen as classes
 use Rattle.order_runs.specs.Seen.{SeenStandsFor}
-use Rattle.piece_outcomes.specs.Came.{Came, Seen, nothing_came, follow}
+use Rattle.piece_outcomes.specs.Came.{Came, nothing_came, follow}
 use Rattle.piece_outcomes.specs.Counting.{met_of, taken_by}
-use Rattle.piece_outcomes.specs.Orders.{MetIs, clash_at}
+use Rattle.piece_outcomes.specs.Orders.{clash_at}
 use Rattle.piece_outcomes.specs.Outcomes.{OutcomeIs}
 use Rattle.piece_outcomes.specs.declared.counts.Counts.{Counts}
 use Rattle.piece_outcomes.specs.declared.met.MetFault.{MetFault}
@@ -33,8 +30,8 @@ use Rattle.piece_outcomes.specs.declared.outcome.Counted.{Counted}
 use Rattle.piece_outcomes.specs.declared.outcome.OrderCounted.{OrderCounted}
 use Rattle.piece_run.specs.Driven.{MayBegin, stage_of, order_stage_of}
 use Rattle.piece_run.specs.DriverGives.{read_lines, GivesBelow}
-use Rattle.piece_run.specs.Ordering.{PlainOrder, OrderOutcomeIs, IsOrderOutcomeOf}
-use Rattle.piece_run.specs.Outcomes.{PlainOutcome, IsOutcomeOf}
+use Rattle.piece_run.specs.Ordering.{OrderOutcomeIs, IsOrderOutcomeOf}
+use Rattle.piece_run.specs.Outcomes.{IsOutcomeOf}
 use Rattle.piece_run.specs.Staged.{EndKeyedBy, last_step, tuples_stage, ordered_stage}
 use Rattle.piece_run.specs.declared.came.CameOut.{CameOut}
 use Rattle.piece_run.specs.declared.driver.Driven.TheVariants as given

@@ -24,7 +24,7 @@ use Rattle.clause_stages.proofs.Clauses.{falls_from}
 use Rattle.clause_stages.proofs.Driving.{drivers_are_stages}
 use Rattle.clause_stages.proofs.EndSteps.{ends_are_steps}
 use Rattle.clause_stages.proofs.OrderSteps.{orders_are_steps}
-use Rattle.piece_outcomes.specs.Came.{Came, Seen, nothing_came, came_behind, follow, keyed_came}
+use Rattle.piece_outcomes.specs.Came.{Seen, nothing_came, came_behind, follow, keyed_came}
 use Rattle.piece_outcomes.specs.Orders.{clash_at}
 use Rattle.piece_run.specs.Driven.{driven_by}
 use Rattle.piece_run.specs.Ends.{StageEnd, items, numbers, groups, items_came, tuples_came, end_step}

@@ -1,5 +1,5 @@
 -- The keys of `group by`, each absent or one atomic, and as many as it names.
-use Rattle.std.proofs.Common.{◌≡◌, ℕ, suc, ◌+◌, List, [], ◌∷◌, ◌++◌, length, Option, Some, None, Result, Ok, Err, refl, sym, ap, subst, ◌∙◌}
+use Rattle.std.proofs.Common.{◌≡◌, ℕ, suc, ◌+◌, List, [], ◌∷◌, length, Option, Result, Ok, Err, refl, ap, subst}
 use Rattle.item_tree.specs.Datum.{Datum, null, boolean, integer, decimal, text, date, date_time, array, object}
 use Rattle.item_tree.specs.declared.fault.Fault.{Fault}
 use Rattle.item_tree.specs.Laws.{IsKey}

@@ -1,5 +1,5 @@
 -- What workers give for all pieces of an input is a whole run.
-use Rattle.std.proofs.Common.{◌≡◌, ℕ, zero, suc, ◌+◌, ◌<◌, ◌≤◌, List, [], ◌∷◌, length, slice_get, Option, None, Some, IfSome, refl, ap, ◌∙◌, subst, arith}
+use Rattle.std.proofs.Common.{◌≡◌, ℕ, zero, suc, ◌+◌, ◌<◌, List, [], ◌∷◌, length, slice_get, Option, None, Some, IfSome, refl, ap, ◌∙◌, subst, arith}
 use Rattle.item_tree.specs.Datum.{Datum}
 use Rattle.item_reader.specs.Lines.{Line}
 use Rattle.line_pieces.specs.Pieces.{told_piece}

@@ -1,6 +1,6 @@
--- A `for` over the lines of an input, the narrow clauses after it, and an end, as a stage. Lines are
--- read in the step `reading`, for the expression at the stage's place of the query; the `for` has
--- the next number, and its clauses those after that.
+-- A `for` over the lines of an input, the narrow clauses after it, and an end, as a stage. Lines
+-- are read in the step `reading`, for the expression at the stage's place of the query; the `for`
+-- has the next number, and its clauses those after that.
 use Rattle.std.specs.Prelude.{◌≡◌, ℕ, List, Option, Some, None}
 use Rattle.item_tree.specs.declared.fault.Fault.{Fault}
 use Rattle.item_reader.specs.Lines.{Line}

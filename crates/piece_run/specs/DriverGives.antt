@@ -1,5 +1,5 @@
 -- What the two steps of a driver give below a limit: lines are read, and their items are bound.
-use Rattle.std.specs.Prelude.{◌≡◌, ℕ, ◌+◌, ◌<◌, ◌≤◌, List, Result, Ok, Err}
+use Rattle.std.specs.Prelude.{◌≡◌, ℕ, ◌+◌, ◌<◌, ◌≤◌, List, Ok, Err}
 use Rattle.item_tree.specs.Datum.{Datum}
 use Rattle.item_reader.specs.Lines.{Line}
 use Rattle.query_meaning.specs.Outcome.{OrFault, each, each_from}

@@ -19,7 +19,7 @@ pub fn driven_stages_fall()
 
 /// What is finished of what a stage makes of the lines of an input is what the `for` over them
 /// means, with the clauses after it and `return`, `count`, `group by` or `order by`, also where the
-/// source of the `for` alone finds the input. What was gathered goes on into the clauses after that.
+/// source of the `for` alone finds the input. What was gathered goes on into the clauses after it.
 pub fn driven_stages_give_values()
     ensures { DrivenStagesGiveValues }
 {}

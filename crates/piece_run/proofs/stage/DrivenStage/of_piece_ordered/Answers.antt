@@ -1,4 +1,4 @@
-use Rattle.std.proofs.Common.{◌≡◌, List, ℕ, map, IfOk, IfSome, sym, subst}
+use Rattle.std.proofs.Common.{◌≡◌, List, ℕ, map, IfSome, sym, subst}
 use Rattle.item_reader.specs.Lines.{Line}
 use Rattle.line_pieces.specs.Pieces.{told_piece}
 use Rattle.query_tree.specs.BoundViews.{bound_order_keys}
