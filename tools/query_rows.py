@@ -16,9 +16,9 @@ A row of rows.txt is some lines, with an empty line behind them:
 `# TITLE` begins a new file, named by the title's first word. Expected values come from the language's
 rules, never from running the program. Run it again after a change of the table: tools/query_rows.py
 
-tools/query_rows.py --run PROGRAM writes nothing: it runs each row with a built program, and
-compares what that prints. It runs the rows of examples/tables/*.txt too, which have the same form and
-of which nothing is proved.
+tools/query_rows.py --run PROGRAM writes nothing: it runs each row with a built program, as MODES have
+it, and compares what that prints. It runs the rows of examples/tables/*.txt too, which have the same
+form and of which nothing is proved.
 """
 import json
 import re
@@ -34,6 +34,8 @@ REPOSITORY = Path(__file__).resolve().parent.parent
 TOP = REPOSITORY / "crates"
 ROWS = TOP / "query_rows"
 TABLES = REPOSITORY / "examples" / "tables"
+# the words with which each row is run: over pieces of a byte each, over pieces as usual, in one place
+MODES = [["--workers", "3", "--partition", "1"], [], ["--mode", "local"]]
 WORDS = (TOP / "query_grammar" / "specs" / "Words.antt").read_text()
 GRAMMAR = (TOP / "query_grammar" / "specs" / "Grammar.antt").read_text()
 
@@ -273,13 +275,10 @@ def files_of(query, inputs):
     return files
 
 
-def printed(program, files):
-    """What the program prints and its exit status, where there are these files and no others."""
-    with tempfile.TemporaryDirectory() as folder:
-        for name, text in files.items():
-            (Path(folder) / name).write_bytes(text.encode())
-        words = [program, "run", "q"]
-        run = subprocess.run(words, cwd=folder, stdin=subprocess.DEVNULL, capture_output=True)
+def printed(program, folder, mode):
+    """What the program prints and its exit status, in the folder of a row."""
+    words = [program, "run", "q", *mode]
+    run = subprocess.run(words, cwd=folder, stdin=subprocess.DEVNULL, capture_output=True)
     out, err = (text.decode(errors="replace") for text in (run.stdout, run.stderr))
     return out, err, run.returncode
 
@@ -289,13 +288,18 @@ def run_row(program, name, query, inputs, gives):
     for code in unmade(inputs):
         print("row %s: skipped, as no line is known that has %s" % (name, code))
         return "skipped"
-    wanted, got = answer(query, gives), printed(program, files_of(query, inputs))
-    if got == wanted:
-        return "passed"
-    print("row %s: %s" % (name, query))
-    print("  wanted: %r %r status %d" % wanted)
-    print("  got:    %r %r status %d" % got)
-    return "failed"
+    wanted, ended = answer(query, gives), "passed"
+    with tempfile.TemporaryDirectory() as folder:
+        for file, text in files_of(query, inputs).items():
+            (Path(folder) / file).write_bytes(text.encode())
+        for mode in MODES:
+            got = printed(program, folder, mode)
+            if got != wanted:
+                print("row %s %s: %s" % (name, " ".join(mode), query))
+                print("  wanted: %r %r status %d" % wanted)
+                print("  got:    %r %r status %d" % got)
+                ended = "failed"
+    return ended
 
 
 def run_rows(program):
