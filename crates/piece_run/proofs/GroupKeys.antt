@@ -1,5 +1,5 @@
 -- The keys of `group by`, each absent or one atomic, and as many as it names.
-use Rattle.std.proofs.Common.{◌≡◌, ℕ, suc, ◌+◌, List, [], ◌∷◌, length, Option, Result, Ok, Err, refl, ap, subst}
+use Rattle.std.proofs.Common.{◌≡◌, ℕ, suc, ◌+◌, List, [], ◌∷◌, length, Option, Result, Ok, Err, refl, ap, subst, sym}
 use Rattle.item_tree.specs.Datum.{Datum, null, boolean, integer, decimal, text, date, date_time, array, object}
 use Rattle.item_tree.specs.declared.fault.Fault.{Fault}
 use Rattle.item_tree.specs.Laws.{IsKey}
@@ -14,13 +14,33 @@ use Rattle.query_meaning.specs.Outcome.{OrFault}
 use Rattle.query_meaning.specs.Environment.{Tuple, Environment, Inner, with_value, in_tuple}
 use Rattle.query_meaning.specs.Keys.{key_of}
 use Rattle.query_meaning.specs.Groups.{with_key, group_key, group_key_value, group_keys}
-use Rattle.stage_laws.specs.Runs.{Met, ◌>>=◌, with_front, joined, met_at, each_from}
-use Rattle.stage_laws.specs.Stages.{viewed}
+use Rattle.stage_laws.specs.Runs.{Met, ◌>>=◌, with_front, joined, met_at, each_from, each_read}
+use Rattle.stage_laws.specs.Stages.{driver, viewed}
 use Rattle.clause_stages.specs.Steps.{tuples_at, clauses_stage}
 use Rattle.clause_stages.specs.Ends.{group_keyed}
 use Rattle.piece_outcomes.specs.Came.{Came, Seen, keyed_came}
-use Rattle.piece_run.specs.Ends.{groups, end_step}
+use Rattle.query_tree.specs.BoundViews.{bound_clauses, bound_group_vars}
+use Rattle.query_tree.specs.declared.clause.GroupVar.{GroupVar}
+use Rattle.query_meaning.specs.inside.Evaluates.{BoundExpr}
+use Rattle.query_meaning.specs.inside.Views.{tuple_of}
+use Rattle.item_reader.specs.Lines.{Line}
+use Rattle.clause_stages.specs.Steps.{TupleStage}
+use Rattle.clause_stages.specs.Drivers.{placed_item, item_tuple}
+use Rattle.clause_stages.specs.InputLines.{line_read}
+use Rattle.piece_outcomes.specs.Outcomes.{ResultIs}
+use Rattle.piece_outcomes.specs.declared.outcome.Gathered.{Gathered}
+use Rattle.piece_outcomes.specs.declared.outcome.Gathered.TheVariants as given
+use Rattle.piece_run.specs.Driven.{stage_of}
+use Rattle.piece_run.specs.Ends.{StageEnd, groups, end_step}
+use Rattle.piece_run.specs.Flwors.{EndGathered}
 use Rattle.piece_run.specs.HaveKeys.{how_many_keys, AllHave, GroupsHaveKeys}
+use Rattle.piece_run.specs.Keying.{GatheredKeyedBy}
+use Rattle.piece_run.specs.Outcomes.{CameIs}
+use Rattle.piece_run.specs.Staged.{end_of, stage_inner, stage_environment, tuples_stage}
+use Rattle.piece_run.specs.declared.came.CameOut.{CameOut}
+use Rattle.piece_run.specs.declared.stage.DrivenStage.{DrivenStage}
+use Rattle.piece_run.specs.declared.stage.StageEnd as code
+use Rattle.piece_run.specs.declared.stage.StageEnd.TheVariants as own
 
 -- ---- one key
 
@@ -110,3 +130,31 @@ came_has inner ks env number (p.more_clauses c cs) ts =
 
 pub groups_have_keys : GroupsHaveKeys
 groups_have_keys inner number cs ks env ts came h = subst (IfCameHas (how_many_keys ks)) h (came_has inner ks env number cs ts)
+
+-- ---- of what is gathered
+
+-- so has all that comes out of the whole stage
+stage_has : {F : Type 0} (s : DrivenStage F) (keys : PlainGroupVars Slot Target SeqType) → end_of s.end ≡ groups keys → (xs : List (ℕ × Line)) → IfCameHas (how_many_keys keys) ((stage_of s).run xs)
+stage_has s keys same xs =
+    let rest : StageEnd → TupleStage Came Seen = λ end. clauses_stage (stage_inner s) (s.reading + 2) (bound_clauses s.clauses.now) (stage_environment s) (end_step (stage_inner s) (stage_environment s) end) in
+    then_case (how_many_keys keys) (each_read s.reading (placed_item (line_read s.place)) xs) (driver (s.reading + 1) (item_tuple s.binding.variable.now s.binding.of.now s.binding.at.now (tuple_of s.leading.now)) (tuples_stage s)).run (λ items.
+    then_case (how_many_keys keys) (each_read (s.reading + 1) (item_tuple s.binding.variable.now s.binding.of.now s.binding.at.now (tuple_of s.leading.now)) items) (tuples_stage s).run (λ ts.
+    subst (λ (end : StageEnd). IfCameHas (how_many_keys keys) ((rest end).run ts)) (sym same) (came_has (stage_inner s) keys (stage_environment s) (s.reading + 2) (bound_clauses s.clauses.now) ts)))
+
+same_many : (keys : List (GroupVar Slot BoundExpr)) → how_many_keys (bound_group_vars keys) ≡ length keys
+same_many [] = refl
+same_many (k ∷ keys) = ap suc (same_many keys)
+
+has_keyed : {I : Type 0} (stands : I → List Datum → Type 0) (count : ℕ) (g : Gathered (CameOut I)) (r : Result Came (Met Seen Fault)) → ResultIs (CameIs stands) g r → IfCameHas count r → GatheredKeyedBy count g
+has_keyed stands count (given.Whole w) (Ok came) is h = subst (AllHave count) (sym is.keyed) h
+has_keyed stands count (given.Whole w) (Err e) is h = absurd is
+has_keyed stands count (given.Met m) r is h = tt
+
+-- what was gathered of a stage has the keys of its end
+pub gathered_has : {F I : Type 0} (stands : I → List Datum → Type 0) (s : DrivenStage F) (g : Gathered (CameOut I)) (xs : List (ℕ × Line)) → ResultIs (CameIs stands) g ((stage_of s).run xs)
+    → (end : code.StageEnd) → s.end ≡ end → EndGathered end g
+gathered_has stands s g xs is (own.Items body) same = tt
+gathered_has stands s g xs is own.Numbers same = tt
+gathered_has stands s g xs is (own.Groups keys) same =
+    subst (λ (n : ℕ). GatheredKeyedBy n g) (same_many keys.now)
+    (has_keyed stands (how_many_keys (bound_group_vars keys.now)) g ((stage_of s).run xs) is (stage_has s (bound_group_vars keys.now) (ap end_of same) xs))

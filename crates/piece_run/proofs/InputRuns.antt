@@ -16,7 +16,7 @@ use Rattle.stage_laws.specs.Laws.{Falls}
 use Rattle.clause_stages.specs.Drivers.{numbered_lines}
 use Rattle.board_core.specs.declared.event.CoreEvent.{CoreEvent}
 use Rattle.piece_board.specs.Whole.{IsWhole}
-use Rattle.piece_outcomes.specs.Came.{Came, Seen, nothing_came, follow}
+use Rattle.piece_outcomes.specs.Came.{nothing_came, follow}
 use Rattle.piece_outcomes.specs.Counting.{told_step, order_told_step}
 use Rattle.piece_outcomes.specs.Orders.{clash_at, IsWide}
 use Rattle.piece_outcomes.specs.declared.outcome.Counted.{Counted}
@@ -75,9 +75,8 @@ runs_are_whole {I = I} F stands = record {
       let kept = good_as told_step (IsKeyedPiece stands s told) (λ p limit out. (ls : List Line) × of ls p limit out) total full ds events
       (λ p limit out low k. (k.of_piece.lines, k.of_piece.outcome)) w in
       let chosen = lists_chosen [] told_step of total full ds events kept in
-      let lists : ℕ → List (ℕ × Line) = λ p. numbered_lines (first_line s.before.now p) (chosen.0 p) in
-      let o : OnPieces Came Seen = record { first = s.reading; last = last_step s; stage = stage_of s; total = total; lists = lists } in (
-        o,
+      let lists : ℕ → List (ℕ × Line) = λ p. numbered_lines (first_line s.before.now p) (chosen.0 p) in (
+        lists,
         record {
           falls = stage_falls s;
           outputs = good_as told_step (λ p limit out. of (chosen.0 p) p limit out) (λ p limit out. IsOutcomeOf (CameIs stands) s.reading (last_step s) (stage_of s) (lists p) limit out) total full ds events

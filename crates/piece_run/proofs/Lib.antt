@@ -17,5 +17,9 @@ pub mod LinesMeant
 pub mod Numbering
 pub mod Frames
 pub mod InputRuns
+mod FlworStages
+mod FlworParts
+mod FlworMeant
+mod FlworEnds
 mod SharedClauses
 mod Crossing

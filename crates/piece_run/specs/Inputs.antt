@@ -46,15 +46,19 @@ lines_for s source = record {
   clauses = bound_clauses s.clauses.now;
 }
 
--- the stage on so many pieces with these lines
-abbrev pub on_pieces : {F : Type 0} → DrivenStage F → ℕ → (ℕ → List Line) → OnPieces Came Seen
-on_pieces s total lines = record {
+-- the stage on that many pieces, with these lists
+abbrev pub on_lists : {F : Type 0} → DrivenStage F → ℕ → (ℕ → List (ℕ × Line)) → OnPieces Came Seen
+on_lists s total lists = record {
   first = s.reading;
   last = last_step s;
   stage = stage_of s;
   total = total;
-  lists = numbered_piece lines;
+  lists = lists;
 }
+
+-- the stage on that many pieces with these lines
+abbrev pub on_pieces : {F : Type 0} → DrivenStage F → ℕ → (ℕ → List Line) → OnPieces Came Seen
+on_pieces s total lines = on_lists s total (numbered_piece lines)
 
 -- These are the lines of all pieces, as the files tell them; and where the `for` has a variable for
 -- their numbers, the stage has how many lines stand before each piece.
@@ -72,7 +76,8 @@ pub record RunsAreWhole {I : Type 0} (F : Type 0) (stands : I → List Datum →
       (pieces : Pieces (Counted (CameOut I)))
       → IsWhole told_step (IsKeyedPiece stands s told) total (last_step s + 1)
       pieces.done.items pieces.events.items
-      → (o : OnPieces Came Seen) × IsWholeRun (CameIs stands) o pieces
+      → (lists : ℕ → List (ℕ × Line))
+      × IsWholeRun (CameIs stands) (on_lists s total lists) pieces
   pub told : (s : DrivenStage F) (told : List (Option (List ℕ))) (total : ℕ)
       (lines : ℕ → List Line) (pieces : Pieces (Counted (CameOut I)))
       → AreLines s told total lines

@@ -13,3 +13,5 @@ pub mod Seats
 pub mod Gathering
 pub mod Meanings
 pub mod Inputs
+pub mod Kept
+pub mod Flwors

@@ -1,19 +1,24 @@
-//! One stage of a FLWOR over the pieces of an input: the clauses below a limit, and the end of the
-//! stage, on tuples or on the lines of a piece.
+//! FLWORs over the pieces of an input: a stage, which is the clauses below a limit and an end, on
+//! tuples or on the lines of a piece; and a whole FLWOR, whose first stage runs on workers.
 #![tactic(auto)]
 
 mod came;
 mod carrying;
 mod counts;
 mod driven;
+mod driven_flwor;
 mod driver;
 mod ends;
 mod finish;
+mod first_end;
+mod flwor_run;
+mod flwor_stage;
 mod gathering;
 pub mod inputs;
 mod job;
 mod keying;
 pub mod laws;
+mod leaf_fault;
 pub mod meanings;
 mod order;
 mod order_job;
@@ -24,9 +29,12 @@ mod run;
 mod stage;
 
 pub use came::CameOut;
-pub use finish::{finish_groups, finish_numbers, finish_order};
+pub use driven_flwor::DrivenFlwor;
+pub use finish::{finish_groups, finish_items, finish_numbers, finish_order};
+pub use flwor_run::run_flwor;
 pub use gathering::{gather_whole, gather_whole_orders};
 pub use job::DrivenJob;
+pub use leaf_fault::LeafFault;
 pub use order_job::DrivenOrderJob;
 pub use run::{run_driven, run_driven_orders};
 pub use stage::{DrivenStage, NarrowSteps, StageEnd};

@@ -26,8 +26,8 @@ use query_meaning::{Env, EvalFault, Value};
 use query_tree::{BoundExpr, OrderKey};
 use std::alloc::Global;
 
-// The places of the keys, in order.
-fn places_of(alloc: Global, keys: &[OrderKey<BoundExpr>]) -> Result<Vec<u32>, NoMemory>
+/// The places of the keys, in order.
+pub(crate) fn places_of(alloc: Global, keys: &[OrderKey<BoundExpr>]) -> Result<Vec<u32>, NoMemory>
     ensures { IfOk result (λ v. v.items ≡ column_places (bound_order_keys keys.now)) }
 {
     match column_places(alloc, keys) {
