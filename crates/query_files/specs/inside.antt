@@ -1,0 +1,4 @@
+-- How the contracts of private functions see the code.
+pub mod Grown
+pub mod Loads
+pub mod Places
