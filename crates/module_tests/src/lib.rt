@@ -2,6 +2,10 @@
 #![tactic(auto)]
 
 #[cfg(test)]
+mod found;
+#[cfg(test)]
+mod grammar;
+#[cfg(test)]
 mod heads;
 #[cfg(test)]
 mod loads;

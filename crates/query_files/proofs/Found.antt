@@ -28,7 +28,7 @@ use Rattle.module_names.specs.declared.order.File.{File}
 use Rattle.module_names.specs.declared.order.Refused as told
 use Rattle.text_places.specs.Places.{place_text}
 use Rattle.query_files.specs.Files.{Reading, unread, with_imports, IsReadAfter, IsReadText, AreReadings}
-use Rattle.query_files.specs.Found.{Found, no_query, unloaded, bytes_of, IsTogether, IsFoundBy, IsFoundIn, refusal_place, library_named, text_of, file_texts}
+use Rattle.query_files.specs.Found.{Found, no_query, unloaded, bytes_of, IsWhole, IsFoundBy, IsFoundIn, refusal_place, library_named, text_of, file_texts}
 use Rattle.query_files.specs.Merged.{Texts, library_text, where_text}
 use Rattle.query_files.specs.declared.finding.Unfound.TheVariants as fault
 use Rattle.query_files.specs.Leaves.{Answered, MissedFor, OpenedFiles, LeavesFound}
@@ -139,9 +139,9 @@ module _ (reads : Reader (Unit {0})) (says : (text : List ℕ) (answer : Answer 
 
   pub ok_found : (w : World) (name : List ℕ) (files : Vec (File (Kept (Unit {0}))) Global) (o : Option Found)
       → ((sources : Sources (Kept (Unit {0}))) → AreSources reads w sources → IsLoaded sources name (Ok files))
-      → IfSome o (IsTogether (file_texts files.items)) → IfSome o (λ f. IsFoundIn w name f)
+      → IfSome o (IsWhole (file_texts files.items)) → IfSome o (λ f. IsFoundIn w name f)
   ok_found w name files None told h = tt
-  ok_found w name files (Some f) told h = found_by w name (Some (Ok (map done_file files.items))) f told h
+  ok_found w name files (Some f) told h = found_by w name (Some (Ok (map done_file files.items))) f told (inl h)
 
   -- the place in the bytes that are kept is that in the file
   same_place : (name : List ℕ) (r : told.Refused) (contents own : List ℕ) → AreKept r.code r.place own contents

@@ -5,4 +5,5 @@ mod Worlds
 mod Growth
 mod Found
 mod Placing
+mod SomeFound
 mod OneFound

@@ -1,5 +1,5 @@
 -- The files of a world, each read alone: they have one reading, and it is what any reader says.
-use Rattle.std.proofs.Common.{◌≡◌, ◌⊎◌, inl, inr, ◌<◌, ◌≤◌, ℕ, List, [], ◌∷◌, length, Bool, true, false, Option, None, Some, Result, Ok, Err, refl, sym, ap, ap₂, ◌∙◌, subst, cond}
+use Rattle.std.proofs.Common.{◌≡◌, ◌⊎◌, inl, inr, ◌<◌, ◌≤◌, ℕ, List, [], ◌∷◌, length, Bool, true, false, Option, None, Some, Result, Ok, Err, refl, sym, ap, ap₂, ◌∙◌, subst, cond, rules}
 use Rattle.std.specs.Prelude.{IfSome}
 use Rattle.std.specs.Str.{IsUtf8, IsValidUpTo, bytes_eq}
 use Rattle.item_tree.specs.declared.code.Code.{Code}
@@ -30,6 +30,25 @@ only_readings (w ∷ ws) sources others (r, rest, is, are, e) (s, more, it, were
     e
     ∙ ap₂ (λ (x : Reading) (xs : Sources (Kept (Unit {0}))). (w.0, kept_reading w.1 x) ∷ xs) (only_reading w.1 r s is it) (only_readings ws rest more are were)
     ∙ sym f
+
+-- what a file comes to is the reading of some bytes beside them
+pub source_of_reading : (world : World) (sources : Sources (Kept (Unit {0}))) → AreReadings world sources → (name : Name) (end_ : Result (Source (Kept (Unit {0}))) Unread)
+    → source_of sources name ≡ Some end_ → (bytes : List ℕ) × (r : Reading) × IsReading bytes r × (end_ ≡ kept_reading bytes r)
+source_of_reading [] sources are name end_ there = absurd (none_there (sym (ap (λ (ss : Sources (Kept (Unit {0}))). source_of ss name) are) ∙ there))
+  where
+    none_there : None ≡ Some end_ → ⊥
+    none_there e = search rules
+source_of_reading (w ∷ ws) sources (r, rest, is, are, e) name end_ there =
+    by (bytes_eq w.0 name) (source_of_reading ws rest are name end_) (sym (ap (λ (ss : Sources (Kept (Unit {0}))). source_of ss name) e) ∙ there)
+  where
+    by : (b : Bool) → (source_of rest name ≡ Some end_ → (bytes : List ℕ) × (s : Reading) × IsReading bytes s × (end_ ≡ kept_reading bytes s))
+        → cond b (Some (kept_reading w.1 r)) (source_of rest name) ≡ Some end_
+        → (bytes : List ℕ) × (s : Reading) × IsReading bytes s × (end_ ≡ kept_reading bytes s)
+    by true more own = (w.1, r, is, same)
+      where
+        same : end_ ≡ kept_reading w.1 r
+        same = cc
+    by false more own = more own
 
 -- ---- what a reader says
 

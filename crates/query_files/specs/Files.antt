@@ -113,3 +113,12 @@ pub record IsModuleAt (start : ℕ) (text : List ℕ) (tree : Module) : Type 0 w
   pub lexed : Tokens text tokens
   pub head : IsHead text tokens imports count
   pub parsed : IsTreeAt start text (drop count tokens) tree
+
+-- the words after the head of a text are refused where its first byte has this place
+pub record IsRefusedFrom (start : ℕ) (text : List ℕ) (code : Code) (place : ℕ) : Type 0 where
+  pub tokens : List Token
+  pub imports : List Import
+  pub count : ℕ
+  pub lexed : Tokens text tokens
+  pub head : IsHead text tokens imports count
+  pub refused : IsRefusedAt start text (drop count tokens) code place

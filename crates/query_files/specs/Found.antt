@@ -1,5 +1,5 @@
 -- What a query comes to in a world: it is loaded with its libraries, and put together.
-use Rattle.std.specs.Prelude.{◌≡◌, ℕ, List, [], map, Option, Some, None, length, Result, Ok, Err, if◌then◌else◌}
+use Rattle.std.specs.Prelude.{◌≡◌, ◌⊎◌, ℕ, List, [], map, Option, Some, None, length, Result, Ok, Err, if◌then◌else◌}
 use Rattle.std.specs.Str.{bytes_eq}
 use Rattle.item_tree.specs.declared.code.Code.{Code}
 use Rattle.item_tree.specs.declared.code.Code.TheVariants.{PJST0007}
@@ -11,7 +11,7 @@ use Rattle.module_names.specs.Remaining.{done_file}
 use Rattle.module_names.specs.declared.file_bytes.Kept.{Kept}
 use Rattle.module_names.specs.declared.order.File.{File}
 use Rattle.query_files.specs.Files.{AreReadings}
-use Rattle.query_files.specs.Merged.{Texts, Place, IsMerged, where_text}
+use Rattle.query_files.specs.Merged.{Texts, Place, IsMerged, AreRefusedFrom, place_in, where_text}
 
 -- there is no such file; or it is not loaded, with this code and where it stands, after so many
 -- files were opened; or it is put together from these texts to this tree
@@ -50,10 +50,20 @@ refusal_place query r bytes = record {
   at = r.place;
 }
 
+-- the tree that texts are put together to
+abbrev pub IsWhole : Texts → Found → Type 0
+IsWhole texts found =
+    (whole : Module) × IsMerged texts whole × (found ≡ together texts whole)
+
+-- the first of the texts that is refused where it stands
+abbrev pub IsMisplaced : Texts → Found → Type 0
+IsMisplaced texts found =
+    (code : Code) × (place : ℕ) × AreRefusedFrom 0 texts code place
+    × (found ≡ unloaded code (where_text (place_in texts place)) (length texts))
+
 -- what texts come to that are put together
 abbrev pub IsTogether : Texts → Found → Type 0
-IsTogether texts found =
-    (whole : Module) × IsMerged texts whole × (found ≡ together texts whole)
+IsTogether texts found = IsWhole texts found ⊎ IsMisplaced texts found
 
 -- what loading comes to
 abbrev pub IsFoundBy : World → List ℕ

@@ -10,8 +10,8 @@ pub record HasOneReading (bytes : List ℕ) : Type 0 where
   pub only : (reading other : Reading) → IsReading bytes reading → IsReading bytes other
       → reading ≡ other
 
--- of the query of this name no two things are found
-abbrev pub FindsOne : World → List ℕ → Type 0
-FindsOne world name =
-    (found other : Found) → IsFoundIn world name found → IsFoundIn world name other
-    → found ≡ other
+-- of the query of this name something is found in a world, and nothing else
+pub record FindsOne (world : World) (name : List ℕ) : Type 0 where
+  pub some : (found : Found) × IsFoundIn world name found
+  pub only : (found other : Found) → IsFoundIn world name found → IsFoundIn world name other
+      → found ≡ other

@@ -1,10 +1,11 @@
 -- Texts that are put together to a query.
-use Rattle.std.specs.Prelude.{◌≡◌, ◌+◌, ◌-◌, ℕ, nat_lt, List, [], ◌∷◌, ◌++◌, Option, Some, None, length, codes, if◌then◌else◌}
+use Rattle.std.specs.Prelude.{◌≡◌, ◌⊎◌, ◌+◌, ◌-◌, ℕ, nat_lt, List, [], ◌∷◌, ◌++◌, Option, Some, None, length, codes, if◌then◌else◌}
 use Rattle.std.specs.Str.{encode_utf8_all}
+use Rattle.item_tree.specs.declared.code.Code.{Code}
 use Rattle.query_grammar.specs.Nodes.{Module}
 use Rattle.module_names.specs.Loading.{merged}
 use Rattle.text_places.specs.Places.{place_text}
-use Rattle.query_files.specs.Files.{IsModuleAt}
+use Rattle.query_files.specs.Files.{IsModuleAt, IsRefusedFrom}
 
 -- ---- texts
 
@@ -68,3 +69,12 @@ pub record IsMerged (texts : Texts) (whole : Module) : Type 0 where
   pub query : Module
   pub modules : AreModulesAt 0 texts (libraries ++ query ∷ [])
   pub is : whole ≡ merged libraries query
+
+-- the first of these texts that is refused where it stands, and how. The grammar would have to look
+-- at places for that: each of the texts was read alone and not refused
+abbrev pub AreRefusedFrom : ℕ → Texts → Code → ℕ → Type 0
+AreRefusedFrom start [] code place = ⊥
+AreRefusedFrom start (t ∷ ts) code place =
+    IsRefusedFrom start t.1 code place
+    ⊎ (((tree : Module) × IsModuleAt start t.1 tree)
+    × AreRefusedFrom (start + length t.1) ts code place)

@@ -2,7 +2,7 @@
 
 ghost use Rattle.std.specs.Prelude.{◌≡◌, ℕ, List, IfSome};
 ghost use Rattle.query_files.specs.Files.{IsReadText};
-ghost use Rattle.query_files.specs.Found.{IsTogether, IsFoundIn, file_texts};
+ghost use Rattle.query_files.specs.Found.{IsWhole, IsFoundIn, file_texts};
 ghost use Rattle.query_files.specs.inside.Loads.{HasTexts};
 ghost use Rattle.query_files.specs.Leaves.{LeavesFound};
 ghost use Rattle.query_files.specs.Seen.{reading_of, found_of};
@@ -49,7 +49,7 @@ fn query_of_files<P: Parser>(
     files: Vec<File<Kept<()>>>,
 ) -> Result<Together, Unfound>
     ensures found { (name : List ℕ) → IfSome (found_of name result)
-        (IsTogether (file_texts files.items)) }
+        (IsWhole (file_texts files.items)) }
     ensures texts { HasTexts (file_texts files.items) result }
 {
     match put_together(alloc, parser, &files) {

@@ -10,7 +10,7 @@ pub fn one_reading()
     ensures { (bytes : List ℕ) → HasOneReading bytes }
 {}
 
-/// No two things are found of the query of one name in a world.
+/// Of the query of one name something is found in a world, and nothing else.
 pub fn finds_one()
     ensures { (world : World) → (name : List ℕ) → FindsOne world name }
 {}

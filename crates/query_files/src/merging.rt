@@ -29,7 +29,7 @@ pub(crate) struct Growing {
 }
 
 // The query that a text is as a file, where its first byte has this place. The text was read alone,
-// so nothing of it is refused.
+// so nothing of it is refused; were it so, `NoMemory` would tell that too.
 fn module_at<P: Parser>(
     alloc: Global,
     parser: &P,
