@@ -2,7 +2,7 @@ mod Reading
 mod Starts
 mod HeadRows
 mod LoadingRows
-mod LoadedFiles
+pub mod LoadedFiles
 mod LoadingRules
 mod Steps
 mod Answering

@@ -169,9 +169,9 @@ pub told_from : {P Q : World → Type 0} (world : Option World) → ((w : World)
 told_from None f h = tt
 told_from (Some w) f h = f w h
 
-pub told_from_two : {P Q R : World → Type 0} (world : Option World) → ((w : World) → P w → Q w → R w) → IfSome world P → IfSome world Q → IfSome world R
-told_from_two None f g h = tt
-told_from_two (Some w) f g h = f w g h
+pub told_from_two : {P Q R : World → Type 0} (world : Option World) → IfSome world P → IfSome world Q → ((w : World) → P w → Q w → R w) → IfSome world R
+told_from_two None g h f = tt
+told_from_two (Some w) g h f = f w g h
 
 -- ---- one file
 

@@ -102,11 +102,11 @@ placed_next start t ts tree is (inr (code, place, r)) = inr (code, place, inr ((
 
 all_placed : (start : ℕ) (texts : Texts) → AllWorded texts → Placed start texts
 all_placed start [] h = inl ([], refl)
-all_placed start (t ∷ ts) h = by (either start t.1 h.0)
+all_placed start (t ∷ ts) h = by (either start t.1 h.0) (all_placed (start + length t.1) ts h.1)
   where
-    by : ((tree : Module) × IsModuleAt start t.1 tree) ⊎ ((code : Code) × (place : ℕ) × IsRefusedFrom start t.1 code place) → Placed start (t ∷ ts)
-    by (inl (tree, is)) = placed_next start t ts tree is (all_placed (start + length t.1) ts h.1)
-    by (inr (code, place, r)) = inr (code, place, inl r)
+    by : ((tree : Module) × IsModuleAt start t.1 tree) ⊎ ((code : Code) × (place : ℕ) × IsRefusedFrom start t.1 code place) → Placed (start + length t.1) ts → Placed start (t ∷ ts)
+    by (inl (tree, is)) rest = placed_next start t ts tree is rest
+    by (inr (code, place, r)) rest = inr (code, place, inl r)
 
 split_last : (m : Module) (ms : List Module) → (front : List Module) × (last : Module) × (m ∷ ms ≡ front ++ last ∷ [])
 split_last m [] = ([], m, refl)
