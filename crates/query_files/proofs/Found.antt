@@ -5,9 +5,8 @@ use Rattle.std.proofs.lemmas.List.{length-map}
 use Rattle.std.specs.declared.alloc.Global.{Global}
 use Rattle.std.specs.declared.vec.Vec.{Vec}
 use Rattle.item_tree.specs.declared.code.Code.{Code}
-use Rattle.item_tree.specs.declared.code.Code.TheVariants.{XPST0003, PJST0001, PJST0003, PJST0004, PJST0007}
+use Rattle.item_tree.specs.declared.code.Code.TheVariants.{XPST0003, PJST0001, PJST0003, PJST0004}
 use Rattle.item_reader.specs.Lines.{without_mark}
-use Rattle.outside.specs.Counted.{RoseByOne}
 use Rattle.outside.specs.Opens.{InputCounts}
 use Rattle.outside.specs.World.{World}
 use Rattle.query_lexer.specs.Lexes.{Tokens}
@@ -27,7 +26,7 @@ use Rattle.module_names.specs.declared.load_fault.LoadFault.TheVariants as load
 use Rattle.module_names.specs.declared.order.File.{File}
 use Rattle.module_names.specs.declared.order.Refused as told
 use Rattle.text_places.specs.Places.{place_text}
-use Rattle.query_files.specs.Files.{Reading, unread, with_imports, IsReadAfter, IsReadText, AreReadings}
+use Rattle.query_files.specs.Files.{Reading, unread, with_imports, IsReadAfter, IsReadText}
 use Rattle.query_files.specs.Found.{Found, no_query, unloaded, bytes_of, IsWhole, IsFoundBy, IsFoundIn, refusal_place, library_named, text_of, file_texts}
 use Rattle.query_files.specs.Merged.{Texts, library_text, where_text}
 use Rattle.query_files.specs.declared.finding.Unfound.TheVariants as fault

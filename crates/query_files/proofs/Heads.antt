@@ -1,5 +1,5 @@
 -- The head of tokens: there is one or a refusal, and one alone.
-use Rattle.std.proofs.Common.{◌≡◌, ◌⊎◌, inl, inr, ℕ, ◌+◌, Bool, true, false, List, [], ◌∷◌, length, Option, None, Some, Result, Ok, Err, zero, suc, refl, sym, ap, ap₂, ◌∙◌, subst, rules, if◌then◌else◌}
+use Rattle.std.proofs.Common.{◌≡◌, ◌⊎◌, inl, inr, ℕ, ◌+◌, Bool, true, false, List, [], ◌∷◌, length, Option, None, Some, Result, Ok, Err, refl, sym, ap, ap₂, ◌∙◌, subst, if◌then◌else◌}
 use Rattle.std.specs.Str.{chars}
 use Rattle.item_tree.specs.JsonString.{Piece, content, IsString}
 use Rattle.json_text.specs.inside.Scan.{plain, pieces_at}

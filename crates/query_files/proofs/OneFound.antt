@@ -1,5 +1,5 @@
 -- No two things are found of one query.
-use Rattle.std.proofs.Common.{◌≡◌, ◌⊎◌, inl, inr, ◌+◌, ℕ, suc, List, [], ◌∷◌, ◌++◌, length, drop, Option, None, Some, Result, Ok, Err, refl, sym, ap, ap₂, ◌∙◌, subst, arith}
+use Rattle.std.proofs.Common.{◌≡◌, inl, inr, ◌+◌, ℕ, suc, List, [], ◌∷◌, ◌++◌, length, drop, Option, None, Some, Result, Ok, Err, refl, sym, ap, ap₂, ◌∙◌, subst, arith}
 use Rattle.item_tree.specs.declared.code.Code.{Code}
 use Rattle.outside.specs.World.{World}
 use Rattle.query_lexer.specs.Lexes.{Tokens}
@@ -14,7 +14,7 @@ use Rattle.module_names.specs.Loading.{Refusal, Sources, Files, loaded, merged}
 use Rattle.module_names.specs.declared.file_bytes.Kept.{Kept}
 use Rattle.module_names.specs.declared.head.Import.{Import}
 use Rattle.query_files.specs.Files.{IsTreeAt, IsRefusedAt, IsModuleAt, IsRefusedFrom}
-use Rattle.query_files.specs.Found.{Found, unloaded, together, IsTogether, IsWhole, IsMisplaced, IsFoundBy, IsFoundIn, texts_of}
+use Rattle.query_files.specs.Found.{Found, unloaded, together, IsTogether, IsMisplaced, IsFoundBy, IsFoundIn, texts_of}
 use Rattle.query_files.specs.Merged.{Texts, AreModulesAt, AreRefusedFrom, IsMerged, place_in, where_text}
 use Rattle.query_files.specs.Laws.{HasOneReading, FindsOne}
 use Rattle.query_files.proofs.Heads as heads

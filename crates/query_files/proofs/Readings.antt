@@ -1,5 +1,5 @@
 -- Every file has one reading.
-use Rattle.std.proofs.Common.{◌≡◌, ◌⊎◌, inl, inr, ◌<◌, ◌≤◌, ◌+◌, ℕ, zero, suc, List, [], ◌∷◌, length, take, drop, Bool, true, false, refl, sym, ap, ap₂, ◌∙◌, subst, arith}
+use Rattle.std.proofs.Common.{◌≡◌, ◌⊎◌, inl, inr, ◌<◌, ◌≤◌, ◌+◌, ℕ, zero, suc, List, [], ◌∷◌, length, take, drop, Bool, true, false, refl, sym, ap, ◌∙◌, subst, arith}
 use Rattle.std.specs.Str.{IsUtf8, is_utf8}
 use Rattle.std.proofs.Math.Nat.{eq-or-lt_of_le}
 use Rattle.std.proofs.lemmas.Bool.{cases_lt, cases_order}
@@ -11,7 +11,6 @@ use Rattle.item_reader.specs.Lines.{without_mark}
 use Rattle.query_lexer.specs.Lexes.{Tokens, Refused}
 use Rattle.query_lexer.specs.declared.token.Token.{Token}
 use Rattle.query_grammar.specs.Laws.{IsDecided}
-use Rattle.query_grammar.specs.Nodes.{Module}
 use Rattle.query_grammar.specs.Texts.{Derives, IsRefused}
 use Rattle.query_grammar.specs.Words.{AreWordsAt}
 use Rattle.query_grammar.specs.declared.word.Word.{Word}

@@ -1,9 +1,8 @@
 -- Something is found of each query: the texts that are loaded are modules where they stand, or the first that is none is refused there.
-use Rattle.std.proofs.Common.{◌≡◌, ◌⊎◌, inl, inr, ◌+◌, ℕ, List, [], ◌∷◌, ◌++◌, length, map, drop, Option, None, Some, Result, Ok, Err, refl, sym, ap, ◌∙◌, subst, rules}
+use Rattle.std.proofs.Common.{◌≡◌, ◌⊎◌, inl, inr, ◌+◌, ℕ, List, [], ◌∷◌, ◌++◌, length, drop, Option, None, Some, Result, Ok, Err, refl, sym, ap, subst, rules}
 use Rattle.item_tree.specs.declared.code.Code.{Code}
 use Rattle.item_reader.specs.Lines.{without_mark}
 use Rattle.outside.specs.World.{World}
-use Rattle.std.specs.Str.{bytes_eq}
 use Rattle.query_lexer.specs.Lexes.{Tokens}
 use Rattle.query_lexer.specs.declared.token.Token.{Token}
 use Rattle.query_grammar.specs.Laws.{IsDecided}
@@ -14,11 +13,11 @@ use Rattle.query_grammar.proofs.Texts as grammar
 use Rattle.module_names.specs.Alone.{with_contents}
 use Rattle.module_names.specs.Heads.{IsHead}
 use Rattle.module_names.specs.Loaded.{InOrder, AreLoaded}
-use Rattle.module_names.specs.Loading.{Name, Refusal, Source, Unread, Sources, Files, loaded, merged, source_of}
+use Rattle.module_names.specs.Loading.{Name, Refusal, Source, Unread, Sources, Files, loaded, merged}
 use Rattle.module_names.specs.declared.file_bytes.Kept.{Kept}
 use Rattle.module_names.specs.declared.head.Import.{Import}
 use Rattle.module_names.proofs.LoadedFiles.{files_are_loaded}
-use Rattle.query_files.specs.Files.{Reading, unread, with_imports, IsReadAfter, AreRead, IsReadText, IsReadBehindMark, IsReading, AreReadings, IsModuleAt, IsRefusedFrom, kept_reading}
+use Rattle.query_files.specs.Files.{Reading, IsReadAfter, IsReadText, IsReading, AreReadings, IsModuleAt, IsRefusedFrom, kept_reading}
 use Rattle.query_files.specs.Found.{Found, no_query, unloaded, together, IsFoundBy, IsFoundIn, IsTogether, bytes_in, refusal_place, text_of, texts_of}
 use Rattle.query_files.specs.Merged.{Texts, AreModulesAt, AreRefusedFrom, IsMerged, place_in, where_text}
 use Rattle.query_files.proofs.Worlds.{readings_are, source_of_reading}

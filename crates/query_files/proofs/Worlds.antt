@@ -1,8 +1,7 @@
 -- The files of a world, each read alone: they have one reading, and it is what any reader says.
-use Rattle.std.proofs.Common.{◌≡◌, ◌⊎◌, inl, inr, ◌<◌, ◌≤◌, ℕ, List, [], ◌∷◌, length, Bool, true, false, Option, None, Some, Result, Ok, Err, refl, sym, ap, ap₂, ◌∙◌, subst, cond, rules}
+use Rattle.std.proofs.Common.{◌≡◌, inl, inr, ℕ, List, [], ◌∷◌, Bool, true, false, None, Some, Result, Ok, Err, refl, sym, ap, ap₂, ◌∙◌, subst, cond, rules}
 use Rattle.std.specs.Prelude.{IfSome}
-use Rattle.std.specs.Str.{IsUtf8, IsValidUpTo, bytes_eq}
-use Rattle.item_tree.specs.declared.code.Code.{Code}
+use Rattle.std.specs.Str.{IsValidUpTo, bytes_eq}
 use Rattle.item_tree.specs.declared.code.Code.TheVariants.{XPST0003, PJST0005}
 use Rattle.item_reader.specs.Lines.{without_mark}
 use Rattle.outside.specs.World.{World, file_of}

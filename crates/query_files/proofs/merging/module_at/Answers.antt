@@ -1,4 +1,4 @@
-use Rattle.std.proofs.Common.{List, drop, sym, subst}
+use Rattle.std.proofs.Common.{List, sym, subst}
 use Rattle.std.proofs.lemmas.List.{take_rest}
 use Rattle.query_lexer.specs.Lexes.{Tokens, AreTokens}
 use Rattle.query_lexer.specs.declared.token.Token.{Token}

@@ -1,4 +1,4 @@
-use Rattle.std.proofs.Common.{length, ap, sym, subst, ◌∙◌, ◌<◌}
+use Rattle.std.proofs.Common.{length, ap, subst, ◌∙◌, ◌<◌}
 use Rattle.std.proofs.lemmas.List.{length-map}
 use Rattle.query_files.specs.inside.Places.{text_length}
 use Rattle.query_files.proofs.Placing.{located_by}
