@@ -25,4 +25,4 @@ mod tries;
 mod types;
 mod typeswitch;
 
-pub use evaluation::{eval, eval_globals, eval_query, value};
+pub use evaluation::{eval, eval_globals, eval_query, handle, value};
