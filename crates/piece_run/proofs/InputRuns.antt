@@ -40,7 +40,7 @@ below (y ∷ ys) zero x e = omega arith
 below (y ∷ ys) (suc p) x e = let h = below ys p x e in omega (arith, h)
 
 -- outputs that are good so are good in another way
-good_as : {O : Type 0} (tells : O → Option ℕ) (good other : ℕ → ℕ → O → Type 0) (total full : ℕ) (done : List (Done O)) (events : List CoreEvent)
+pub good_as : {O : Type 0} (tells : O → Option ℕ) (good other : ℕ → ℕ → O → Type 0) (total full : ℕ) (done : List (Done O)) (events : List CoreEvent)
     → ((p limit : ℕ) (out : O) → p < total → good p limit out → other p limit out) → IsWhole tells good total full done events → IsWhole tells other total full done events
 good_as tells good other total full done events h w = record {
   count = w.count;
@@ -61,7 +61,7 @@ may_begin : (at : Option (Placed Slot)) (n : ℕ) → MayBegin at n n
 may_begin None n = tt
 may_begin (Some at) n = refl
 
-of_told : (o : Option (List Line)) (found lines : List Line) → o ≡ Some lines → IfSome o (λ ls. found ≡ ls) → found ≡ lines
+pub of_told : (o : Option (List Line)) (found lines : List Line) → o ≡ Some lines → IfSome o (λ ls. found ≡ ls) → found ≡ lines
 of_told None found lines e h = absurd cc
 of_told (Some ls) found lines e h = let same : ls ≡ lines = cc in h ∙ same
 

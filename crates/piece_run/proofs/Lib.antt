@@ -23,3 +23,12 @@ mod FlworMeant
 mod FlworEnds
 mod SharedClauses
 mod Crossing
+mod LoneRuns
+mod LeadingLets
+mod Closing
+mod LeafClosed
+mod LeafMeans
+mod NamesFound
+mod Passing
+mod LeafValues
+mod LoneCrossing

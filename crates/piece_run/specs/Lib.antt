@@ -15,3 +15,6 @@ pub mod Meanings
 pub mod Inputs
 pub mod Kept
 pub mod Flwors
+pub mod LoneLines
+pub mod Leading
+pub mod Leaf

@@ -1,5 +1,6 @@
 //! FLWORs over the pieces of an input: a stage, which is the clauses below a limit and an end, on
-//! tuples or on the lines of a piece; and a whole FLWOR, whose first stage runs on workers.
+//! tuples or on the lines of a piece; and a whole FLWOR, whose first stage runs on workers. And
+//! leaves of a query, which open the files of their driver, run over its pieces, and close them.
 #![tactic(auto)]
 
 mod came;
@@ -18,8 +19,14 @@ pub mod inputs;
 mod job;
 mod keying;
 pub mod laws;
+mod leading;
+mod leaf;
 mod leaf_fault;
+mod leaf_run;
+mod lone_lines;
 pub mod meanings;
+mod named_files;
+mod open_seats;
 mod order;
 mod order_job;
 mod ordering;
@@ -35,6 +42,8 @@ pub use flwor_run::run_flwor;
 pub use gathering::{gather_whole, gather_whole_orders};
 pub use job::DrivenJob;
 pub use leaf_fault::LeafFault;
+pub use leaf_run::LeafRun;
+pub use named_files::NamedFiles;
 pub use order_job::DrivenOrderJob;
 pub use run::{run_driven, run_driven_orders};
 pub use stage::{DrivenStage, NarrowSteps, StageEnd};
