@@ -22,7 +22,7 @@ run_answered stats text world query =
 pub executable_answered : (act : Action) (text : List ℕ) (world : World) (query : Executable) → IsOfExecutable act text world query (of_executable act text world query)
 executable_answered action.Check text world query = refl
 executable_answered action.Explain text world query = refl
-executable_answered (action.Run stats) text world query = run_answered stats text world query
+executable_answered (action.Run run) text world query = run_answered run.stats text world query
 
 pub front_answered : (act : Action) (text : List ℕ) (world : World) (front : Front) → IsOfFront act text world front (of_front act text world front)
 front_answered act text world (Ok query) = executable_answered act text world query
@@ -38,7 +38,7 @@ only_of_run stats text world query a h =
 only_of_executable : (act : Action) (text : List ℕ) (world : World) (query : Executable) (a : Answer) → IsOfExecutable act text world query a → a ≡ of_executable act text world query
 only_of_executable action.Check text world query a h = h
 only_of_executable action.Explain text world query a h = h
-only_of_executable (action.Run stats) text world query a h = only_of_run stats text world query a h
+only_of_executable (action.Run run) text world query a h = only_of_run run.stats text world query a h
 
 pub only_of_front : (act : Action) (text : List ℕ) (world : World) (front : Front) (a : Answer) → IsOfFront act text world front a → a ≡ of_front act text world front
 only_of_front act text world (Ok query) a h = only_of_executable act text world query a h

@@ -20,7 +20,6 @@ use Rattle.rumble_run.specs.Opens.{Search, OfSearch}
 use Rattle.text_places.specs.Places.{line_of, column_of}
 use Rattle.rumble_run.specs.inside.Computed.{of_executable, of_run}
 use Rattle.rumble_run.specs.inside.Decided.{SearchedBy}
-use Rattle.rumble_run.specs.inside.Reads.{SearchedAll, SearchedSome}
 use Rattle.rumble_run.specs.inside.Seen.{IsShaped, IsSilent, IsOfStatus, IsToldAnswer, LeavesRun, EndsAs, answer_of, decided_status, status_of_stop}
 use Rattle.rumble_run.specs.declared.ending.Ending.{Ending}
 use Rattle.rumble_run.specs.declared.status.Status.{Status}
@@ -29,6 +28,7 @@ use Rattle.rumble_run.specs.declared.status.Stop.TheVariants as stop
 use Rattle.rumble_run.specs.declared.status.Status.TheVariants.{Done, Raised, Refused, Usage, ReadFault, WriteFault, NoMemory, NoQuery}
 use Rattle.rumble_run.specs.declared.command.Action.{Action}
 use Rattle.rumble_run.specs.declared.command.Action.TheVariants as action
+use Rattle.rumble_run.specs.declared.command.Running.{Running}
 use Rattle.rumble_run.specs.declared.command.Command.{Command}
 use Rattle.rumble_run.specs.declared.command.Command.TheVariants.{Query, Trial}
 use Rattle.rumble_run.proofs.Answered.{anywhere, over_told}
@@ -95,10 +95,10 @@ pub answer_file : (ending : Result Ending Stop) (words : List (List ℕ)) (act :
 answer_file (Ok e) words act name world q h = over_told words act name world (answer_of e) q h
 answer_file (Err stop) words act name world q h = tt
 
-pub answer_trial : (ending : Result Ending Stop) (words : List (List ℕ)) (number lines : ℕ) (world : Option World) → command_of words ≡ Some (Trial number lines)
-    → IfOk ending (λ e. IsOfTrial number lines (answer_of e)) → IfOk ending (λ e. IsToldAnswer world words (answer_of e))
-answer_trial (Ok e) words number lines world q h = anywhere words (Some (Trial number lines)) world (answer_of e) q tt (λ w. h)
-answer_trial (Err stop) words number lines world q h = tt
+pub answer_trial : (ending : Result Ending Stop) (words : List (List ℕ)) (number lines : ℕ) (run : Running) (world : Option World) → command_of words ≡ Some (Trial number lines run)
+    → IfOk ending (λ e. IsOfTrial number lines run (answer_of e)) → IfOk ending (λ e. IsToldAnswer world words (answer_of e))
+answer_trial (Ok e) words number lines run world q h = anywhere words (Some (Trial number lines run)) world (answer_of e) q tt (λ w. h)
+answer_trial (Err stop) words number lines run world q h = tt
 
 -- ---- the answer to the query of a name
 
@@ -176,7 +176,7 @@ pub ends_opens : (command : Option Command) (s r : Status) (faults faults' : ℕ
 ends_opens command s r faults faults' before after e o = ends_by (λ s. OpensBy command s before after) s r faults faults' (write command) e o
   where
     write : (command : Option Command) → OpensBy command Done before after → OpensBy command WriteFault before after
-    write (Some (Trial number lines)) h = h
+    write (Some (Trial number lines run)) h = h
     write (Some (Query act name)) h = h
     write None h = h
 
@@ -185,59 +185,34 @@ pub ends_alone : (command : Option Command) (s r : Status) (faults faults' : ℕ
 ends_alone command s r faults faults' before after e o = ends_by (λ s. ChecksAlone command s before after) s r faults faults' (write command) e o
   where
     write : (command : Option Command) → ChecksAlone command Done before after → ChecksAlone command WriteFault before after
-    write (Some (Trial number lines)) h = h
-    write (Some (Query (action.Run stats) name)) h = tt
+    write (Some (Trial number lines run)) h = h
+    write (Some (Query (action.Run run) name)) h = tt
     write (Some (Query action.Check name)) h = h
     write (Some (Query action.Explain name)) h = h
     write None h = tt
 
 -- the two halves of a search, by the status
 pub ends_opened : (world : Option World) (command : Option Command) (s r : Status) (faults faults' : ℕ) (before after : InputCounts) → EndsAs s r faults faults'
-    → OfSearch world command (λ search. SearchedBy search s before after) → OfSearch world command (λ search. OpenedBy (length search.files) r before after)
+    → OfSearch world command (λ search. SearchedBy search s before after) → OfSearch world command (λ search. OpenedBy search r before after)
 ends_opened None command s r faults faults' before after e h = tt
 ends_opened (Some w) command s r faults faults' before after e h = λ search is.
-    ends_by (λ s. OpenedBy (length search.files) s before after) s r faults faults' (λ h. h) e (h search is).0
+    ends_by (λ s. OpenedBy search s before after) s r faults faults' (λ h. h) e (h search is).0
 
 pub ends_missed : (world : Option World) (command : Option Command) (s r : Status) (faults faults' : ℕ) (before after : InputCounts) → EndsAs s r faults faults'
-    → OfSearch world command (λ search. SearchedBy search s before after) → OfSearch world command (λ search. MissedBy (length search.missing) r before after)
+    → OfSearch world command (λ search. SearchedBy search s before after) → OfSearch world command (λ search. MissedBy search r before after)
 ends_missed None command s r faults faults' before after e h = tt
 ends_missed (Some w) command s r faults faults' before after e h = λ search is.
-    ends_by (λ s. MissedBy (length search.missing) s before after) s r faults faults' (λ h. h) e (h search is).1
+    ends_by (λ s. MissedBy search s before after) s r faults faults' (λ h. h) e (h search is).1
 
 pub search_opened : (world : Option World) (command : Option Command) (s : Status) (before after : InputCounts)
-    → OfSearch world command (λ search. SearchedBy search s before after) → OfSearch world command (λ search. OpenedBy (length search.files) s before after)
+    → OfSearch world command (λ search. SearchedBy search s before after) → OfSearch world command (λ search. OpenedBy search s before after)
 search_opened None command s before after h = tt
 search_opened (Some w) command s before after h = λ search is. (h search is).0
 
 pub search_missed : (world : Option World) (command : Option Command) (s : Status) (before after : InputCounts)
-    → OfSearch world command (λ search. SearchedBy search s before after) → OfSearch world command (λ search. MissedBy (length search.missing) s before after)
+    → OfSearch world command (λ search. SearchedBy search s before after) → OfSearch world command (λ search. MissedBy search s before after)
 search_missed None command s before after h = tt
 search_missed (Some w) command s before after h = λ search is. (h search is).1
-
--- an ending that was decided is no fault, so what it searched is all
-all_searched : (search : Search) (s : Status) (out : List ℕ) (before after : InputCounts) → IsSilent out s → SearchedAll search before after → SearchedBy search s before after
-all_searched search Done out before after silent h = h
-all_searched search Raised out before after silent h = h
-all_searched search Refused out before after silent h = h
-all_searched search Usage out before after silent h = h
-all_searched search NoQuery out before after silent h = h
-all_searched search WriteFault out before after silent h = absurd silent
-all_searched search ReadFault out before after silent h = absurd silent
-all_searched search NoMemory out before after silent h = absurd silent
-
-pub decided_searched : (world : Option World) (command : Option Command) (a : Answer) (before after : InputCounts) → IsSilent a.out a.status
-    → OfSearch world command (λ search. SearchedAll search before after) → OfSearch world command (λ search. SearchedBy search a.status before after)
-decided_searched None command a before after silent h = tt
-decided_searched (Some w) command a before after silent h = λ search is. all_searched search a.status a.out before after silent (h search is)
-
-stop_some : (search : Search) (stop : Stop) (before after : InputCounts) → SearchedSome search before after → SearchedBy search (status_of_stop stop) before after
-stop_some search stop.ReadFault before after h = h
-stop_some search stop.NoMemory before after h = h
-
-pub stop_searched : (world : Option World) (command : Option Command) (stop : Stop) (before after : InputCounts)
-    → OfSearch world command (λ search. SearchedSome search before after) → OfSearch world command (λ search. SearchedBy search (status_of_stop stop) before after)
-stop_searched None command stop before after h = tt
-stop_searched (Some w) command stop before after h = λ search is. stop_some search stop before after (h search is)
 
 -- ---- the query that was read was opened
 
@@ -276,7 +251,7 @@ one_by NoMemory before after other opened missed = (opened, inr missed)
 one_by NoQuery before after other opened missed = absurd (other refl)
 
 pub checked_alone : (act : Action) (name : List ℕ) (s : Status) (before after : InputCounts) → (ReadsNone act → LooksForOne s before after) → ChecksAlone (Some (Query act name)) s before after
-checked_alone (action.Run stats) name s before after h = tt
+checked_alone (action.Run run) name s before after h = tt
 checked_alone action.Check name s before after h = h tt
 checked_alone action.Explain name s before after h = h tt
 

@@ -10,3 +10,14 @@ pub mod LoneInputs
 pub mod Parting
 pub mod Settled
 pub mod PrintedLines
+pub mod Searching
+pub mod LeafCounting
+pub mod SpineSteps
+pub mod OtherKinds
+pub mod DriverSteps
+pub mod SpineLoops
+pub mod InPlace
+pub mod FoldedTexts
+pub mod Crossing
+pub mod SpineFits
+pub mod AlongPlan

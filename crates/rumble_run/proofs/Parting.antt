@@ -1,5 +1,5 @@
 -- Runs whose result is written as parts.
-use Rattle.std.proofs.Common.{◌≡◌, ◌≢◌, ℕ, List, [], Option, None, Some, Result, Err, length, refl, sym, ap, ◌∙◌, subst, inl, inr, arith, false}
+use Rattle.std.proofs.Common.{◌≡◌, ◌≢◌, ℕ, List, [], Option, None, Some, Result, Err, length, refl, sym, ap, ◌∙◌, subst, inl, inr, arith, false, Bool, true}
 use Rattle.std.specs.Prelude.{IfSome, IfOk}
 use Rattle.outside.specs.Opens.{InputCounts}
 use Rattle.outside.specs.Outputs.{Made}
@@ -7,13 +7,14 @@ use Rattle.outside.specs.World.{World, file_of}
 use Rattle.part_writer.specs.Parts.{parts_of}
 use Rattle.run_words.specs.declared.task.PartsTask.{PartsTask}
 use Rattle.rumble_run.specs.Answer.{Answer, AnswersOver, IsOfFile}
-use Rattle.rumble_run.specs.Ends.{HasText, StatusBy, Completes, Calm, OpensBy, OpensByStatus, OpenedBy, OpenedJust, MissedBy, MissedJust, MissesRose, NoCountFalls, IsBalanced, Wrote, err_by}
+use Rattle.rumble_run.specs.Ends.{HasText, StatusBy, Completes, Calm, OpensBy, OpensByStatus, OpenedAtMost, OpenedWhere, MissedAtMost, MissedWhere, MissesRose, NoCountFalls, IsBalanced, Wrote, err_by}
 use Rattle.rumble_run.specs.Headline.{RunsParts, Looked, Told}
-use Rattle.rumble_run.specs.Opens.{Search, OfSearch}
+use Rattle.rumble_run.specs.Commands.{running}
+use Rattle.rumble_run.specs.Opens.{Search, OfSearch, all_opens, all_misses}
 use Rattle.rumble_run.specs.Parts.{IsOfParts, IsPartsAnswer, OfPartsAnswer, HasPartsText, parts_task, parts_count, parts_usage, output_parts, run_of_parts, Written, PartsBy, IsUnwritten, PartsStopped}
-use Rattle.rumble_run.specs.inside.Decided.{IsStop}
+use Rattle.rumble_run.specs.inside.Decided.{IsStop, SearchedBy}
 use Rattle.rumble_run.specs.inside.Parted.{IsPartsShaped, IsToldParts, IsWriting, PartsEnd}
-use Rattle.rumble_run.specs.inside.Reads.{CausedBy, Searched, SearchedAll, SearchedSome}
+use Rattle.rumble_run.specs.inside.Reads.{CausedBy}
 use Rattle.rumble_run.specs.inside.Seen.{IsShaped, IsUsage, IsSilent, decided_status, status_of_stop}
 use Rattle.rumble_run.specs.declared.ending.Ending.{Ending}
 use Rattle.rumble_run.specs.declared.parts.Parted.{Parted}
@@ -22,6 +23,7 @@ use Rattle.rumble_run.specs.declared.status.Status.TheVariants.{Done, Raised, Re
 use Rattle.rumble_run.specs.declared.status.Stop.{Stop}
 use Rattle.rumble_run.specs.declared.status.Stop.TheVariants as stop
 use Rattle.rumble_run.specs.declared.command.Action.TheVariants as action
+use Rattle.rumble_run.specs.declared.command.Running.{Running}
 use Rattle.rumble_run.specs.declared.command.Command.{Command}
 use Rattle.rumble_run.specs.declared.command.Command.TheVariants.{Query}
 use Rattle.rumble_run.proofs.Answered.{only_of_command, no_file_searched, search_of_query, OfFiles}
@@ -40,6 +42,10 @@ unfolding IsPartsAnswer
 told_parts world words a Holds is h = λ w b over it.
     subst Holds (only_of_parts w (parts_task words) a b (is w over) it) h
 
+-- how the query is run
+abbrev pub run_for : PartsTask → Running
+run_for task = running false task.workers task.size false
+
 -- ---- what is decided
 
 pub usage_decided : (world : Option World) (words : List (List ℕ)) (a : Answer) → parts_task words ≡ None
@@ -49,7 +55,7 @@ usage_decided world words a none e = λ w over. subst (λ t. IsOfParts w t a) (s
 
 pub run_decided : (told : Option World) (words : List (List ℕ)) (a : Answer) (task : PartsTask)
     → parts_task words ≡ Some task
-    → IfSome told (λ w. IsOfFile (action.Run false) task.query w (file_of w task.query) a)
+    → IfSome told (λ w. IsOfFile (action.Run (run_for task)) task.query w (file_of w task.query) a)
     → IsToldParts told words a
 unfolding IsPartsAnswer
 run_decided told words a task some h = λ w over.
@@ -57,9 +63,9 @@ run_decided told words a task some h = λ w over.
     (by w (subst (λ t. AnswersOver told (run_of_parts t) w) some over))
   where
     by : (w : World) → AnswersOver told (run_of_parts (Some task)) w
-        → IsOfFile (action.Run false) task.query w (file_of w task.query) a
+        → IsOfFile (action.Run (run_for task)) task.query w (file_of w task.query) a
     by w (inl e) =
-        subst (λ t. IfSome t (λ w. IsOfFile (action.Run false) task.query w (file_of w task.query) a)) e h
+        subst (λ t. IfSome t (λ w. IsOfFile (action.Run (run_for task)) task.query w (file_of w task.query) a)) e h
     by w (inr none) = absurd none
 
 usage_shaped_by : (a : Answer) → a ≡ parts_usage → IsPartsShaped None a
@@ -72,8 +78,8 @@ pub usage_shaped : (words : List (List ℕ)) (a : Answer) → parts_task words �
 usage_shaped words a none e = subst (λ t. IsPartsShaped t a) (sym none) (usage_shaped_by a e)
 
 run_shaped_by : (task : PartsTask) (s : Status) (out err : List ℕ)
-    → HasText (Some (Query (action.Run false) task.query)) err s → IsSilent out s
-    → IsUsage (Some (Query (action.Run false) task.query)) s
+    → HasText (Some (Query (action.Run (run_for task)) task.query)) err s → IsSilent out s
+    → IsUsage (Some (Query (action.Run (run_for task)) task.query)) s
     → IsPartsShaped (Some task) (record { status = s; out = out; err = err })
 run_shaped_by task Done out err t s u = record { text = t; silent = s; usage = λ e. cc }
 run_shaped_by task Raised out err t s u = record { text = t; silent = s; usage = λ e. cc }
@@ -85,7 +91,7 @@ run_shaped_by task NoMemory out err t s u = absurd s
 run_shaped_by task NoQuery out err t s u = record { text = t; silent = s; usage = λ e. cc }
 
 pub run_shaped : (words : List (List ℕ)) (a : Answer) (task : PartsTask) → parts_task words ≡ Some task
-    → IsShaped (Some (Query (action.Run false) task.query)) a → IsPartsShaped (parts_task words) a
+    → IsShaped (Some (Query (action.Run (run_for task)) task.query)) a → IsPartsShaped (parts_task words) a
 run_shaped words a task some h =
     subst (λ t. IsPartsShaped t a) (sym some)
     (run_shaped_by task a.status a.out a.err h.text h.silent h.usage)
@@ -95,7 +101,7 @@ pub opens_decided : (result : Result Ending Stop) (words : List (List ℕ)) (tas
     → OpensBy (run_of_parts (parts_task words)) (decided_status result) before after
 opens_decided result words task before after some o =
     subst (λ t. OpensBy (run_of_parts t) (decided_status result) before after) (sym some)
-    (file_opens result (run_of_parts (Some task)) (action.Run false) task.query before after refl o)
+    (file_opens result (run_of_parts (Some task)) (action.Run (run_for task)) task.query before after refl o)
 
 pub opens_usage : (words : List (List ℕ)) (a : Answer) (counts : InputCounts) → parts_task words ≡ None
     → a ≡ parts_usage → OpensBy (run_of_parts (parts_task words)) a.status counts counts
@@ -110,24 +116,17 @@ opens_nothing (Some task) counts = tt
 
 pub search_no_task : (world : Option World) (words : List (List ℕ)) (counts : InputCounts)
     → parts_task words ≡ None
-    → OfSearch world (run_of_parts (parts_task words)) (λ search. SearchedAll search counts counts)
-search_no_task world words counts none =
-    no_file_searched world None (run_of_parts (parts_task words)) counts (ap run_of_parts none) tt
+    → (s : Status) → OfSearch world (run_of_parts (parts_task words)) (λ search. SearchedBy search s counts counts)
+search_no_task world words counts none s =
+    no_file_searched world None (run_of_parts (parts_task words)) s counts (ap run_of_parts none) tt
 
-pub search_decided : {T : Type 0} (result : Result T Stop) (world : Option World) (words : List (List ℕ)) (task : PartsTask) (before after : InputCounts)
+pub search_decided : (s : Status) (world : Option World) (words : List (List ℕ)) (task : PartsTask) (before after : InputCounts)
     → parts_task words ≡ Some task
-    → OfFiles world (action.Run false) task.query (λ search. Searched result search before after)
-    → OfSearch world (run_of_parts (parts_task words)) (λ search. Searched result search before after)
-search_decided result world words task before after some h =
-    search_of_query result world (run_of_parts (parts_task words)) (action.Run false) task.query before after
+    → OfFiles world (action.Run (run_for task)) task.query (λ search. SearchedBy search s before after)
+    → OfSearch world (run_of_parts (parts_task words)) (λ search. SearchedBy search s before after)
+search_decided s world words task before after some h =
+    search_of_query s world (run_of_parts (parts_task words)) (action.Run (run_for task)) task.query before after
     (ap run_of_parts some) h
-
-pub stop_decided : (world : Option World) (words : List (List ℕ)) (task : PartsTask) (before after : InputCounts)
-    → parts_task words ≡ Some task
-    → OfFiles world (action.Run false) task.query (λ search. SearchedSome search before after)
-    → OfSearch world (run_of_parts (parts_task words)) (λ search. SearchedSome search before after)
-stop_decided world words task before after some h =
-    search_decided {T = ℕ} (Err stop.NoMemory) world words task before after some h
 
 -- ---- how it ends
 
@@ -273,26 +272,31 @@ stopped parts w = record {
 
 -- ---- the clauses of a run with parts
 
-end_opened : (n : ℕ) (s r : Status) (out : List ℕ) (before after : InputCounts) → IsSilent out s → PartsEnd s r
-    → OpenedJust n before after → OpenedBy n r before after
-end_opened n s Done out before after silent e h = h
-end_opened n s Raised out before after silent e h = h
-end_opened n s Refused out before after silent e h = h
-end_opened n s Usage out before after silent e h = h
-end_opened n s ReadFault out before after silent e h = h.0
-end_opened n s WriteFault out before after silent e h = h
-end_opened n s NoMemory out before after silent e h = h.0
-end_opened n s NoQuery out before after silent e h = h
+opened_some : (search : Search) (certain : Bool) (before after : InputCounts) → OpenedWhere certain search before after → OpenedAtMost (all_opens search) before after
+opened_some search true before after h = h.0
+opened_some search false before after h = h.0
 
-end_missed : (n : ℕ) (r : Status) (before after : InputCounts) → MissedJust n before after → MissedBy n r before after
-end_missed n Done before after h = h
-end_missed n Raised before after h = h
-end_missed n Refused before after h = h
-end_missed n Usage before after h = h
-end_missed n ReadFault before after h = h.0
-end_missed n WriteFault before after h = h
-end_missed n NoMemory before after h = h.0
-end_missed n NoQuery before after h = h
+missed_some : (search : Search) (certain : Bool) (before after : InputCounts) → MissedWhere certain search before after → MissedAtMost (all_misses search) before after
+missed_some search true before after h = omega (arith, h.0)
+missed_some search false before after h = h.0
+
+end_searched : (search : Search) (s r : Status) (before after : InputCounts) → PartsEnd s r → SearchedBy search s before after → SearchedBy search r before after
+end_searched search Done Done before after e h = h
+end_searched search Done WriteFault before after e h = h
+end_searched search Done NoMemory before after e h =
+    (opened_some search search.driven.certain before after h.0, missed_some search search.driven.certain before after h.1)
+end_searched search Done Raised before after e h = absurd e
+end_searched search Done Refused before after e h = absurd e
+end_searched search Done Usage before after e h = absurd e
+end_searched search Done ReadFault before after e h = absurd e
+end_searched search Done NoQuery before after e h = absurd e
+end_searched search Raised r before after e h = subst (λ r. SearchedBy search r before after) (sym e) h
+end_searched search Refused r before after e h = subst (λ r. SearchedBy search r before after) (sym e) h
+end_searched search Usage r before after e h = subst (λ r. SearchedBy search r before after) (sym e) h
+end_searched search ReadFault r before after e h = subst (λ r. SearchedBy search r before after) (sym e) h
+end_searched search WriteFault r before after e h = subst (λ r. SearchedBy search r before after) (sym e) h
+end_searched search NoMemory r before after e h = subst (λ r. SearchedBy search r before after) (sym e) h
+end_searched search NoQuery r before after e h = subst (λ r. SearchedBy search r before after) (sym e) h
 
 search_by : {P Q : Search → Type 0} (world : Option World) (command : Option Command) → ((s : Search) → P s → Q s)
     → OfSearch world command P → OfSearch world command Q
@@ -305,7 +309,7 @@ pub parts_ran : (words : List (List ℕ)) (a : Answer) (n : ℕ) (r : Status) (i
     → inputs'.counts.faults ≡ inputs.counts.faults → NoCountFalls inputs.counts inputs'.counts
     → IsBalanced inputs.counts inputs'.counts
     → OpensBy (run_of_parts (parts_task words)) a.status inputs.counts inputs'.counts
-    → OfSearch inputs.world (run_of_parts (parts_task words)) (λ search. SearchedAll search inputs.counts inputs'.counts)
+    → OfSearch inputs.world (run_of_parts (parts_task words)) (λ search. SearchedBy search a.status inputs.counts inputs'.counts)
     → inputs'.world ≡ inputs.world → PartsEnd a.status r → PartsBy (parts_of n a.out) r w w'
     → Wrote (err_by a.err r) err.wrote err'.wrote err.faults err'.faults
     → RunsParts words r inputs inputs' w w' err err'
@@ -326,9 +330,9 @@ parts_ran words a n r inputs inputs' w w' err err' is count shape usage calm ris
       read_fault = λ same. absurd (parts_never_read (parts_task words) a r shape end same);
       read_first = λ more. absurd (omega (arith, more, calm));
       opened = search_by inputs.world command (λ s h.
-          end_opened (length s.files) a.status r a.out inputs.counts inputs'.counts shape.silent end h.0) search;
+          (end_searched s a.status r inputs.counts inputs'.counts end h).0) search;
       missed = search_by inputs.world command (λ s h.
-          end_missed (length s.missing) r inputs.counts inputs'.counts h.1) search;
+          (end_searched s a.status r inputs.counts inputs'.counts end h).1) search;
       opens = opened;
       closed = balanced;
       rises = rises;
@@ -350,20 +354,21 @@ pub parts_stopped : (words : List (List ℕ)) (s : Stop) (r : Status) (inputs in
     → CausedBy {T = Parted} (Err s) inputs.counts.faults inputs'.counts.faults → NoCountFalls inputs.counts inputs'.counts
     → IsBalanced inputs.counts inputs'.counts
     → OpensBy (run_of_parts (parts_task words)) (status_of_stop s) inputs.counts inputs'.counts
-    → OfSearch inputs.world (run_of_parts (parts_task words)) (λ search. SearchedSome search inputs.counts inputs'.counts)
+    → OfSearch inputs.world (run_of_parts (parts_task words)) (λ search. SearchedBy search (status_of_stop s) inputs.counts inputs'.counts)
     → inputs'.world ≡ inputs.world
     → ((text : List ℕ) → Wrote (err_by text r) err.wrote err'.wrote err.faults err'.faults)
     → RunsParts words r inputs inputs' w w err err'
 parts_stopped words s r inputs inputs' w err err' is unread cause rises balanced opens search world wrote =
     subst (λ r. RunsParts words r inputs inputs' w w err err') (sym is)
-    (by s unread cause opens (subst (λ r. (text : List ℕ) → Wrote (err_by text r) err.wrote err'.wrote err.faults err'.faults) is wrote))
+    (by s unread cause opens search (subst (λ r. (text : List ℕ) → Wrote (err_by text r) err.wrote err'.wrote err.faults err'.faults) is wrote))
   where
     by : (s : Stop) → (s ≡ stop.ReadFault → parts_task words ≢ None)
         → CausedBy {T = Parted} (Err s) inputs.counts.faults inputs'.counts.faults
         → OpensBy (run_of_parts (parts_task words)) (status_of_stop s) inputs.counts inputs'.counts
+        → OfSearch inputs.world (run_of_parts (parts_task words)) (λ search. SearchedBy search (status_of_stop s) inputs.counts inputs'.counts)
         → ((text : List ℕ) → Wrote (err_by text (status_of_stop s)) err.wrote err'.wrote err.faults err'.faults)
         → RunsParts words (status_of_stop s) inputs inputs' w w err err'
-    by stop.ReadFault unread rose opens wrote = record {
+    by stop.ReadFault unread rose opens search wrote = record {
       status = λ world b over it. tt;
       parts = λ world b over it. unwritten w;
       text = λ world b over it. wrote b.err;
@@ -382,7 +387,7 @@ parts_stopped words s r inputs inputs' w err err' is unread cause rises balanced
       rises = rises;
       world = world;
     }
-    by stop.NoMemory unread rose opens wrote = record {
+    by stop.NoMemory unread rose opens search wrote = record {
       status = λ world b over it. tt;
       parts = λ world b over it. stopped (output_parts words b.out) w;
       text = λ world b over it. wrote b.err;

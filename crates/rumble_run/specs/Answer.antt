@@ -27,6 +27,7 @@ use Rattle.rumble_run.specs.declared.status.Status.TheVariants.{Done, Raised, Re
 use Rattle.rumble_run.specs.declared.command.Action.{Action}
 use Rattle.rumble_run.specs.declared.command.Action.TheVariants as action
 use Rattle.rumble_run.specs.declared.command.Command.{Command}
+use Rattle.rumble_run.specs.declared.command.Running.{Running}
 use Rattle.rumble_run.specs.declared.command.Command.TheVariants.{Query, Trial}
 
 pub record Answer : Type 0 where
@@ -96,7 +97,8 @@ abbrev pub of_outcome : Bool → List ℕ → Outcome → Answer
 of_outcome stats text (Ok items) = prints stats items
 of_outcome stats text (Err fault) = raised text fault
 
--- a query that is run over its inputs
+-- A query that is run over its inputs. How many workers share the work, how inputs are cut into
+-- pieces, and whether they are cut at all, changes nothing.
 abbrev pub IsOfRun : Bool → List ℕ → World → Executable → Answer → Type 0
 IsOfRun stats text world query answer =
     (library : Library)
@@ -106,7 +108,8 @@ IsOfRun stats text world query answer =
 abbrev pub IsOfExecutable : Action → List ℕ → World → Executable → Answer → Type 0
 IsOfExecutable action.Check text world query answer = answer ≡ accepted
 IsOfExecutable action.Explain text world query answer = answer ≡ explained text query.trees
-IsOfExecutable (action.Run stats) text world query answer = IsOfRun stats text world query answer
+IsOfExecutable (action.Run run) text world query answer =
+    IsOfRun run.stats text world query answer
 
 -- a query with this front: refused, or the action is done
 abbrev pub IsOfFront : Action → List ℕ → World → Front → Answer → Type 0
@@ -125,9 +128,9 @@ IsOfFile act name world None answer =
 IsOfFile act name world (Some query) answer = IsOfQuery act world query answer
 
 -- a trial runs its query over its own lines, whatever inputs there are
-abbrev pub IsOfTrial : ℕ → ℕ → Answer → Type 0
-IsOfTrial number lines answer =
-    IsOfQuery (action.Run false) (trial_world number lines) trial_query answer
+abbrev pub IsOfTrial : ℕ → ℕ → Running → Answer → Type 0
+IsOfTrial number lines run answer =
+    IsOfQuery (action.Run run) (trial_world number lines) trial_query answer
 
 abbrev pub usage : Answer
 usage =
@@ -137,7 +140,7 @@ abbrev pub IsOfCommand : World → Option Command → Answer → Type 0
 IsOfCommand world None answer = answer ≡ usage
 IsOfCommand world (Some (Query act name)) answer =
     IsOfFile act name world (file_of world name) answer
-IsOfCommand world (Some (Trial number lines)) answer = IsOfTrial number lines answer
+IsOfCommand world (Some (Trial number lines run)) answer = IsOfTrial number lines run answer
 
 -- the answer to a command line over a world; by a law there is one, and only one
 unfoldable pub IsAnswer : List (List ℕ) → World → Answer → Type 0
@@ -147,7 +150,7 @@ IsAnswer words world answer = IsOfCommand world (command_of words) answer
 abbrev pub ReadsNoFile : Option Command → Type 0
 ReadsNoFile None = Unit {0}
 ReadsNoFile (Some (Query act name)) = ⊥
-ReadsNoFile (Some (Trial number lines)) = Unit {0}
+ReadsNoFile (Some (Trial number lines run)) = Unit {0}
 
 -- a call is answered over the world that is told; and over every one, where no file is read
 abbrev pub AnswersOver : Option World → Option Command → World → Type 0

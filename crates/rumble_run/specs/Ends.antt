@@ -1,5 +1,5 @@
 -- What a call of the program leaves, by the status that it ends with.
-use Rattle.std.specs.Prelude.{◌≡◌, ◌<◌, ◌≤◌, ◌⊎◌, ◌+◌, ◌-◌, ◌^◌, ℕ, Bool, true, false, List, [], ◌∷◌, ◌++◌, Option, None, Some, codes}
+use Rattle.std.specs.Prelude.{◌≡◌, ◌<◌, ◌≤◌, ◌⊎◌, ◌+◌, ◌-◌, ◌^◌, ℕ, Bool, true, false, List, [], ◌∷◌, ◌++◌, Option, None, Some, codes, length}
 use Rattle.std.specs.Fmt.{decimal}
 use Rattle.std.specs.Str.{encode_utf8_all}
 use Rattle.item_tree.specs.declared.code.Code.{Code}
@@ -9,6 +9,7 @@ use Rattle.outside.specs.Counted.{Rose, RoseByOne, appended, CutShort}
 use Rattle.outside.specs.Opens.{InputCounts}
 use Rattle.rumble_run.specs.Answer.{Answer, lined, spot_text, stats_text, usage}
 use Rattle.rumble_run.specs.Commands.{wants_stats}
+use Rattle.rumble_run.specs.Opens.{Search, all_opens, all_misses}
 use Rattle.rumble_run.specs.declared.status.Status.{Status}
 use Rattle.rumble_run.specs.declared.command.Action.{Action}
 use Rattle.rumble_run.specs.declared.command.Action.TheVariants as action
@@ -102,11 +103,28 @@ OpenedJust n before after =
     OpenedAtMost n before after
     × (after.opened < 2 ^ 64 - 1 → after.opened ≡ before.opened + n)
 
--- of so many files, each was opened; or, where reading failed or memory was short, some were
-abbrev pub OpenedBy : ℕ → Status → InputCounts → InputCounts → Type 0
-OpenedBy n ReadFault before after = OpenedAtMost n before after
-OpenedBy n NoMemory before after = OpenedAtMost n before after
-OpenedBy n _ before after = OpenedJust n before after
+-- that many files were opened, or more, but no more than `most`
+abbrev pub OpenedBetween : (least most : ℕ) → InputCounts → InputCounts → Type 0
+OpenedBetween least most before after =
+    OpenedAtMost most before after
+    × (after.opened < 2 ^ 64 - 1 → before.opened + least ≤ after.opened)
+
+-- each file of a search was opened, in all that many times where it is certain that each driver
+-- ran; and else at least those that no driver opens
+abbrev pub OpenedWhere : (certain : Bool) → Search → InputCounts → InputCounts → Type 0
+OpenedWhere true search before after = OpenedJust (all_opens search) before after
+OpenedWhere false search before after =
+    OpenedBetween (length search.files) (all_opens search) before after
+
+-- The files of a search were opened: where the output was made, each; where the query raised an
+-- error, at least those that no driver opens; and where reading failed or memory was short, some.
+abbrev pub OpenedBy : Search → Status → InputCounts → InputCounts → Type 0
+OpenedBy search Done before after = OpenedWhere search.driven.certain search before after
+OpenedBy search WriteFault before after = OpenedWhere search.driven.certain search before after
+OpenedBy search ReadFault before after = OpenedAtMost (all_opens search) before after
+OpenedBy search NoMemory before after = OpenedAtMost (all_opens search) before after
+OpenedBy search _ before after =
+    OpenedBetween (length search.files) (all_opens search) before after
 
 -- so many names were missing, or fewer
 abbrev pub MissedAtMost : ℕ → InputCounts → InputCounts → Type 0
@@ -118,12 +136,27 @@ MissedJust n before after =
     MissedAtMost n before after
     × (after.misses < 2 ^ 64 - 1 → after.misses ≡ before.misses + n)
 
--- of so many names that are missing, each was looked for once; or, where reading failed or memory
--- was short, some were
-abbrev pub MissedBy : ℕ → Status → InputCounts → InputCounts → Type 0
-MissedBy n ReadFault before after = MissedAtMost n before after
-MissedBy n NoMemory before after = MissedAtMost n before after
-MissedBy n _ before after = MissedJust n before after
+-- that many names were missing, or more, but no more than `most`
+abbrev pub MissedBetween : (least most : ℕ) → InputCounts → InputCounts → Type 0
+MissedBetween least most before after =
+    MissedAtMost most before after
+    × (after.misses < 2 ^ 64 - 1 → before.misses + least ≤ after.misses)
+
+-- each name that is missing was looked for once; where it is not certain that each driver had a
+-- value, each may have met one missing name more
+abbrev pub MissedWhere : (certain : Bool) → Search → InputCounts → InputCounts → Type 0
+MissedWhere true search before after = MissedJust (length search.missing) before after
+MissedWhere false search before after =
+    MissedBetween (length search.missing) (all_misses search) before after
+
+-- the same by the status; where reading failed or memory was short, some were looked for
+abbrev pub MissedBy : Search → Status → InputCounts → InputCounts → Type 0
+MissedBy search Done before after = MissedWhere search.driven.certain search before after
+MissedBy search WriteFault before after = MissedWhere search.driven.certain search before after
+MissedBy search ReadFault before after = MissedAtMost (all_misses search) before after
+MissedBy search NoMemory before after = MissedAtMost (all_misses search) before after
+MissedBy search _ before after =
+    MissedBetween (length search.missing) (all_misses search) before after
 
 -- an open, or a call on a file, failed
 abbrev pub FaultsRose : InputCounts → InputCounts → Type 0
@@ -151,7 +184,7 @@ abbrev pub ChecksAlone : Option Command → Status → InputCounts → InputCoun
 ChecksAlone (Some (Query action.Check name)) status before after = LooksForOne status before after
 ChecksAlone (Some (Query action.Explain name)) status before after =
     LooksForOne status before after
-ChecksAlone (Some (Trial number lines)) status before after = LooksForNone before after
+ChecksAlone (Some (Trial number lines run)) status before after = LooksForNone before after
 ChecksAlone _ status before after = Unit {0}
 
 -- a count of faults that did not rise
@@ -182,6 +215,6 @@ OpensByStatus _ before after = Unit {0}
 
 -- the same by the command: a trial looks for no file at all
 abbrev pub OpensBy : Option Command → Status → InputCounts → InputCounts → Type 0
-OpensBy (Some (Trial number lines)) status before after = LooksForNone before after
+OpensBy (Some (Trial number lines run)) status before after = LooksForNone before after
 OpensBy (Some (Query act name)) status before after = OpensByStatus status before after
 OpensBy None status before after = OpensByStatus status before after

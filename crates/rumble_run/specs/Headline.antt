@@ -1,5 +1,5 @@
 -- What a call of the program tells, as one record: the clauses of `rumble`.
-use Rattle.std.specs.Prelude.{◌≡◌, ◌≢◌, ◌<◌, ◌⊎◌, ℕ, List, Option, None, length}
+use Rattle.std.specs.Prelude.{◌≡◌, ◌≢◌, ◌<◌, ◌⊎◌, ℕ, List, Option, None}
 use Rattle.outside.specs.Counted.{Rose}
 use Rattle.outside.specs.Opens.{InputCounts}
 use Rattle.outside.specs.World.{World}
@@ -50,9 +50,9 @@ pub record RunsAsRumble (words : List (List ℕ)) (result : Status) (inputs inpu
   pub write_fault : result ≡ WriteFault → Rose out.faults out'.faults
   pub out_calm : result ≢ WriteFault → out'.faults ≡ out.faults
   pub opened : OfSearch inputs.world (command_of words) (λ search.
-      OpenedBy (length search.files) result inputs.counts inputs'.counts)
+      OpenedBy search result inputs.counts inputs'.counts)
   pub missed : OfSearch inputs.world (command_of words) (λ search.
-      MissedBy (length search.missing) result inputs.counts inputs'.counts)
+      MissedBy search result inputs.counts inputs'.counts)
   pub opens : OpensBy (command_of words) result inputs.counts inputs'.counts
   pub alone : ChecksAlone (command_of words) result inputs.counts inputs'.counts
   pub closed : IsBalanced inputs.counts inputs'.counts
@@ -81,9 +81,9 @@ pub record RunsParts (words : List (List ℕ)) (result : Status) (inputs inputs'
   pub read_first : inputs.counts.faults < inputs'.counts.faults
       → (result ≡ ReadFault) ⊎ (result ≡ NoMemory)
   pub opened : OfSearch inputs.world (run_of_parts (parts_task words)) (λ search.
-      OpenedBy (length search.files) result inputs.counts inputs'.counts)
+      OpenedBy search result inputs.counts inputs'.counts)
   pub missed : OfSearch inputs.world (run_of_parts (parts_task words)) (λ search.
-      MissedBy (length search.missing) result inputs.counts inputs'.counts)
+      MissedBy search result inputs.counts inputs'.counts)
   pub opens : OpensBy (run_of_parts (parts_task words)) result inputs.counts inputs'.counts
   pub closed : IsBalanced inputs.counts inputs'.counts
   pub rises : NoCountFalls inputs.counts inputs'.counts

@@ -10,6 +10,7 @@ use Rattle.part_writer.specs.Written.{made_with, StopAtFault, StopForMemory}
 use Rattle.run_words.specs.PartsAsked.{begins_parts, parts_asked}
 use Rattle.run_words.specs.declared.task.PartsTask.{PartsTask}
 use Rattle.rumble_run.specs.Answer.{Answer, AnswersOver, IsOfCommand, says}
+use Rattle.rumble_run.specs.Commands.{running}
 use Rattle.rumble_run.specs.Ends.{HasText}
 use Rattle.rumble_run.specs.declared.status.Status.{Status}
 use Rattle.rumble_run.specs.declared.status.Status.TheVariants.{Done, Usage, WriteFault, NoMemory}
@@ -28,7 +29,8 @@ parts_task words = parts_asked (map encode_utf8_all words)
 -- the run whose output is written as parts
 abbrev pub run_of_parts : Option PartsTask → Option Command
 run_of_parts None = None
-run_of_parts (Some task) = Some (Query (action.Run false) task.query)
+run_of_parts (Some task) =
+    Some (Query (action.Run (running false task.workers task.size false)) task.query)
 
 abbrev pub parts_usage : Answer
 parts_usage = says Usage (codes "usage: rumble parts QUERY COUNT")

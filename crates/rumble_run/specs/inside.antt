@@ -8,3 +8,8 @@ pub mod Seen
 pub mod Printing
 pub mod LoneInput
 pub mod Parted
+pub mod Caught
+pub mod LeafCounts
+pub mod Walked
+pub mod Driving
+pub mod Along

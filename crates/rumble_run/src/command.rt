@@ -1,18 +1,31 @@
 //! What a command line asks for.
 
-ghost use Rattle.std.specs.Prelude.{◌≡◌, IfOk};
-ghost use Rattle.rumble_run.specs.Commands.{command_for, command_of};
+ghost use Rattle.std.specs.Prelude.{◌≡◌, IfOk, IfSome};
+ghost use Rattle.run_words.specs.Asked.{IsWithin};
+ghost use Rattle.rumble_run.specs.Commands.{command_for, command_of, CommandWithin};
 
 use item_tree::{NoMemory, Str};
 use run_words::{Task, WordFault, read_words};
 use std::alloc::Global;
 
+/// How a query is run.
+#[derive(Clone, Copy, Debug, PartialEq, Eq)]
+pub(crate) struct Running {
+    /// Whether the number of the items and that of their bytes are told.
+    pub stats: bool,
+    /// How many workers may share the work, from 1 to 64.
+    pub workers: u32,
+    /// The wanted size of a piece of an input, from 1 to 2^30 bytes.
+    pub size: u64,
+    /// Whether everything is evaluated in one place, without pieces.
+    pub local: bool,
+}
+
 /// What is done with a query.
 #[derive(Clone, Copy, Debug, PartialEq, Eq)]
 pub(crate) enum Action {
-    /// It is run, and the items of its value are printed; their number and that of their bytes are
-    /// told where the statistics are asked for.
-    Run { stats: bool },
+    /// It is run so, and the items of its value are printed.
+    Run(Running),
     /// It is only told whether it is accepted.
     Check,
     /// It is told how its parts are evaluated.
@@ -23,18 +36,37 @@ pub(crate) enum Action {
 #[derive(Debug, Drop)]
 pub(crate) enum Command {
     /// Something is done with the query of this name.
-    Query { action: Action, name: Str },
-    /// The query of the trial is run over so many lines that are made from this number.
-    Trial { number: u32, lines: u32 },
+    Query {
+        action: Action,
+        name: Str,
+    },
+    /// The query of the trial is run so, over that many lines that are made from this number.
+    Trial {
+        number: u32,
+        lines: u32,
+        running: Running,
+    },
 }
 
-// The other options change nothing.
 fn command_for(task: Task) -> Option<Command>
-    ensures { result ≡ command_for task }
+    requires { IsWithin task }
+    ensures is { result ≡ command_for task }
+    ensures within { IfSome result CommandWithin }
 {
     match task {
-        Task::Run { query, stats, .. } => Some(Command::Query {
-            action: Action::Run { stats },
+        Task::Run {
+            query,
+            workers,
+            size,
+            local,
+            stats,
+        } => Some(Command::Query {
+            action: Action::Run(Running {
+                stats,
+                workers,
+                size,
+                local,
+            }),
             name: query,
         }),
         Task::Check { query } => Some(Command::Query {
@@ -45,13 +77,28 @@ fn command_for(task: Task) -> Option<Command>
             action: Action::Explain,
             name: query,
         }),
-        Task::Trial { number, lines, .. } => Some(Command::Trial { number, lines }),
+        Task::Trial {
+            number,
+            lines,
+            workers,
+            size,
+        } => Some(Command::Trial {
+            number,
+            lines,
+            running: Running {
+                stats: false,
+                workers,
+                size,
+                local: false,
+            },
+        }),
     }
 }
 
 /// What the words ask for.
 pub(crate) fn command_of(alloc: Global, words: &[Str]) -> Result<Option<Command>, NoMemory>
-    ensures { IfOk result (λ command. command ≡ command_of words.now) }
+    ensures is { IfOk result (λ command. command ≡ command_of words.now) }
+    ensures within { IfOk result (λ command. IfSome command CommandWithin) }
 {
     match read_words(alloc, words) {
         Ok(task) => Ok(command_for(task)),

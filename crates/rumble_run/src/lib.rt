@@ -13,23 +13,30 @@ ghost use Rattle.rumble_run.specs.Headline.{RunsAsRumble, RunsParts, looked, tol
 ghost use Rattle.rumble_run.specs.Parts.{AsksParts, written};
 ghost use Rattle.rumble_run.specs.Opens.{OfSearch};
 
+mod along;
 mod command;
 mod decide;
+mod driving;
 mod ending;
 mod finish;
+mod folding;
 mod front;
 mod inputs;
 mod items;
 pub mod laws;
+mod local;
 mod lone_input;
 mod mark;
 mod parts;
 mod preparing;
 mod print;
 mod read;
+mod spine;
 mod status;
 mod telling;
 mod trial;
+mod walk;
+mod walking;
 
 use crate::finish::finish;
 use crate::parts::run_parts;
@@ -49,13 +56,13 @@ use std::thread::Threads;
 /// a write fails, a part of it; what there is to tell is written to `err`. The answer is that of
 /// the definition, whatever the sizes of reads and writes.
 pub fn rumble<R: Threads + Wait + Sync, I: Inputs, O: Sink, E: Sink, G: Gate>(
-    _rt: &R,
+    rt: &R,
     alloc: Global,
     words: &[Str],
     inputs: &mut I,
     out: &mut O,
     err: &mut E,
-    _gate: &G,
+    gate: &G,
 ) -> Status
     // Over inputs that tell their bytes, and for a trial over all, the run ends with the
     // definition's answer.
@@ -89,12 +96,13 @@ pub fn rumble<R: Threads + Wait + Sync, I: Inputs, O: Sink, E: Sink, G: Gate>(
     ensures out_calm { result ≢ Status.WriteFault → O.faults out.new ≡ O.faults out.old }
 
     // How many files were opened, how many were missing, and that each that was opened was closed:
-    // over inputs that tell their bytes the query's, and the input of each different name of its
-    // calls of `json-lines`.
+    // over inputs that tell their bytes the query's, once; of the inputs of its calls of
+    // `json-lines` each different one once that no driver reads, and those of a driver once for
+    // each set of them that its workers share. With `--mode local` no call is a driver.
     ensures opened { OfSearch (I.world inputs.old) (command_of words.now) (λ search.
-        OpenedBy (length search.files) result (I.counts inputs.old) (I.counts inputs.new)) }
+        OpenedBy search result (I.counts inputs.old) (I.counts inputs.new)) }
     ensures missed { OfSearch (I.world inputs.old) (command_of words.now) (λ search.
-        MissedBy (length search.missing) result (I.counts inputs.old) (I.counts inputs.new)) }
+        MissedBy search result (I.counts inputs.old) (I.counts inputs.new)) }
     ensures opens { OpensBy (command_of words.now) result (I.counts inputs.old)
         (I.counts inputs.new) }
     ensures alone { ChecksAlone (command_of words.now) result (I.counts inputs.old)
@@ -103,7 +111,7 @@ pub fn rumble<R: Threads + Wait + Sync, I: Inputs, O: Sink, E: Sink, G: Gate>(
     ensures rises { NoCountFalls (I.counts inputs.old) (I.counts inputs.new) }
     ensures world { I.world inputs.new ≡ I.world inputs.old }
 {
-    match prepared(alloc, words, inputs, err) {
+    match prepared(rt, alloc, words, inputs, err, gate) {
         Ok(ending) => finish(&ending, out, err),
         Err(status) => status,
     }
@@ -143,7 +151,7 @@ pub fn rumble_parts<R: Threads + Wait + Sync, I: Inputs, P: Outputs, O: Sink, E:
         ≡ P.created outputs.old + P.finished outputs.new }
 {
     if begins_parts(words) {
-        run_parts(alloc, words, inputs, outputs, out, err)
+        run_parts(rt, alloc, words, inputs, outputs, out, err, gate)
     } else {
         rumble(rt, alloc, words, inputs, out, err, gate)
     }

@@ -8,21 +8,25 @@ ghost use Rattle.rumble_run.specs.Headline.{RunsParts, looked, told};
 ghost use Rattle.rumble_run.specs.Opens.{OfSearch};
 ghost use Rattle.rumble_run.specs.Parts.{parts_task, parts_count, parts_usage, run_of_parts, written, PartsBy};
 ghost use Rattle.rumble_run.specs.inside.Parted.{IsPartsShaped, IsToldParts, IsWriting, PartsEnd, parted_status};
-ghost use Rattle.rumble_run.specs.inside.Reads.{Leaves, Searched};
+ghost use Rattle.run_words.specs.Asked.{WorksWithin};
+ghost use Rattle.rumble_run.specs.inside.Decided.{SearchedBy};
+ghost use Rattle.rumble_run.specs.inside.Reads.{Leaves};
 ghost use Rattle.rumble_run.specs.inside.Seen.{answer_of, IsSilent};
 
-use crate::command::Action;
+use crate::command::{Action, Running};
 use crate::decide::of_file;
 use crate::ending::Ending;
 use crate::finish::{stopped, tell, text_by};
 use crate::status::{Status, Stop};
 use crate::telling::tells_parts_usage;
 use item_tree::{NoMemory, Str};
-use outside::{CreateFault, Inputs, Outputs, Sink, write_all};
+use outside::{CreateFault, Gate, Inputs, Outputs, Sink, write_all};
 use part_list::list_parts;
 use part_writer::{split_lines, write_parts};
 use run_words::{PartsTask, WordFault, read_parts};
 use std::alloc::Global;
+use std::sync::Wait;
+use std::thread::Threads;
 
 /// What a run comes to, with how many parts its output is written as.
 #[derive(Debug, Drop)]
@@ -36,6 +40,7 @@ fn task_asked(alloc: Global, words: &[Str]) -> Result<Option<PartsTask>, NoMemor
     ensures task { IfOk result (λ task. task ≡ parts_task words.now) }
     ensures some { IfOk result (λ task. IfSome task (λ t. 1 ≤ t.count)) }
     ensures most { IfOk result (λ task. IfSome task (λ t. t.count ≤ 1000)) }
+    ensures works { IfOk result (λ task. IfSome task (λ t. WorksWithin t.workers t.size)) }
 {
     match read_parts(alloc, words) {
         Ok(task) => Ok(Some(task)),
@@ -45,10 +50,12 @@ fn task_asked(alloc: Global, words: &[Str]) -> Result<Option<PartsTask>, NoMemor
 }
 
 /// What the words come to. All of it is made in memory before anything is written.
-pub(crate) fn decide_parts<I: Inputs>(
+pub(crate) fn decide_parts<R: Threads + Wait + Sync, I: Inputs, G: Gate>(
+    rt: &R,
     alloc: Global,
     words: &[Str],
     inputs: &mut I,
+    gate: &G,
 ) -> Result<Parted, Stop>
     ensures world { I.world inputs.new ≡ I.world inputs.old }
     ensures value { IfOk result
@@ -65,7 +72,8 @@ pub(crate) fn decide_parts<I: Inputs>(
     ensures opens { OpensBy (run_of_parts (parts_task words.now)) (parted_status result)
         (I.counts inputs.old) (I.counts inputs.new) }
     ensures searched { OfSearch (I.world inputs.old) (run_of_parts (parts_task words.now))
-        (λ search. Searched result search (I.counts inputs.old) (I.counts inputs.new)) }
+        (λ search. SearchedBy search (parted_status result) (I.counts inputs.old)
+        (I.counts inputs.new)) }
 {
     match task_asked(alloc, words)? {
         None => {
@@ -73,8 +81,13 @@ pub(crate) fn decide_parts<I: Inputs>(
             Ok(Parted { ending, count: 1 })
         }
         Some(task) => {
-            let action = Action::Run { stats: false };
-            match of_file(alloc, action, &task.query, inputs) {
+            let action = Action::Run(Running {
+                stats: false,
+                workers: task.workers,
+                size: task.size,
+                local: false,
+            });
+            match of_file(rt, alloc, action, &task.query, inputs, gate) {
                 Ok(ending) => Ok(Parted {
                     ending,
                     count: task.count,
@@ -183,13 +196,15 @@ pub(crate) fn finish_parts<P: Outputs, O: Sink, E: Sink>(
 }
 
 /// Does what words ask whose first is `parts`.
-pub(crate) fn run_parts<I: Inputs, P: Outputs, O: Sink, E: Sink>(
+pub(crate) fn run_parts<R: Threads + Wait + Sync, I: Inputs, P: Outputs, O: Sink, E: Sink, G: Gate>(
+    rt: &R,
     alloc: Global,
     words: &[Str],
     inputs: &mut I,
     outputs: &mut P,
     out: &mut O,
     err: &mut E,
+    gate: &G,
 ) -> Status
     ensures parts { RunsParts words.now result
         (looked (I.world inputs.old) (I.counts inputs.old))
@@ -200,7 +215,7 @@ pub(crate) fn run_parts<I: Inputs, P: Outputs, O: Sink, E: Sink>(
     ensures balanced { P.created outputs.new + P.finished outputs.old
         ≡ P.created outputs.old + P.finished outputs.new }
 {
-    match decide_parts(alloc, words, inputs) {
+    match decide_parts(rt, alloc, words, inputs, gate) {
         Ok(parted) => finish_parts(alloc, &parted, outputs, out, err),
         Err(stop) => stopped(stop, err),
     }

@@ -21,11 +21,13 @@ use std::thread::Threads;
 
 /// What the words come to, decided before anything is written; or, where that stopped, the status
 /// of the stop, with its text on `err`.
-pub(crate) fn prepared<I: Inputs, E: Sink>(
+pub(crate) fn prepared<R: Threads + Wait + Sync, I: Inputs, E: Sink, G: Gate>(
+    rt: &R,
     alloc: Global,
     words: &[Str],
     inputs: &mut I,
     err: &mut E,
+    gate: &G,
 ) -> Result<Ending, Status>
     ensures world { I.world inputs.new ≡ I.world inputs.old }
     ensures value { IfOk result
@@ -48,7 +50,7 @@ pub(crate) fn prepared<I: Inputs, E: Sink>(
     ensures closed { IsBalanced (I.counts inputs.old) (I.counts inputs.new) }
     ensures rises { NoCountFalls (I.counts inputs.old) (I.counts inputs.new) }
 {
-    match decide(alloc, words, inputs) {
+    match decide(rt, alloc, words, inputs, gate) {
         Ok(ending) => Ok(ending),
         Err(stop) => Err(stopped(stop, err)),
     }
@@ -79,12 +81,12 @@ fn settle<E: Sink>(ending: Ending, err: &mut E) -> Result<Vec<u8>, Status>
 /// Does what the words ask but for writing the result, which is the answer. Where there is none the
 /// status is, with its text on `err`.
 pub fn prepare<R: Threads + Wait + Sync, I: Inputs, E: Sink, G: Gate>(
-    _rt: &R,
+    rt: &R,
     alloc: Global,
     words: &[Str],
     inputs: &mut I,
     err: &mut E,
-    _gate: &G,
+    gate: &G,
 ) -> Result<Vec<u8>, Status>
     ensures status { OfAnswer (I.world inputs.old) words.now (λ answer.
         StatusBy answer (status_of result)) }
@@ -115,10 +117,10 @@ pub fn prepare<R: Threads + Wait + Sync, I: Inputs, E: Sink, G: Gate>(
         (status_of result ≡ Status.ReadFault) ⊎ (status_of result ≡ Status.NoMemory) }
 
     ensures opened { OfSearch (I.world inputs.old) (command_of words.now) (λ search.
-        OpenedBy (length search.files) (status_of result) (I.counts inputs.old)
+        OpenedBy search (status_of result) (I.counts inputs.old)
         (I.counts inputs.new)) }
     ensures missed { OfSearch (I.world inputs.old) (command_of words.now) (λ search.
-        MissedBy (length search.missing) (status_of result) (I.counts inputs.old)
+        MissedBy search (status_of result) (I.counts inputs.old)
         (I.counts inputs.new)) }
     ensures opens { OpensBy (command_of words.now) (status_of result) (I.counts inputs.old)
         (I.counts inputs.new) }
@@ -128,7 +130,7 @@ pub fn prepare<R: Threads + Wait + Sync, I: Inputs, E: Sink, G: Gate>(
     ensures rises { NoCountFalls (I.counts inputs.old) (I.counts inputs.new) }
     ensures world { I.world inputs.new ≡ I.world inputs.old }
 {
-    match prepared(alloc, words, inputs, err) {
+    match prepared(rt, alloc, words, inputs, err, gate) {
         Ok(ending) => settle(ending, err),
         Err(status) => Err(status),
     }

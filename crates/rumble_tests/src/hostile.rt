@@ -157,7 +157,8 @@ fn refuses_a_last_line_that_is_cut(rt: HostRuntime) -> Result<(), Fail> {
     Ok(())
 }
 
-const LONG_STRING: &str = "1
+/// A line that is longer than many a piece, between two short ones.
+pub(crate) const LONG_STRING: &str = "1
 \"xxxxxxxxxxxxxxxxxxxxxxxxxxxxxxxxxxxxxx\"
 3
 ";

@@ -11,6 +11,8 @@ mod lines;
 #[cfg(test)]
 mod parts;
 #[cfg(test)]
+mod pieces;
+#[cfg(test)]
 mod plans;
 #[cfg(test)]
 mod prepare;

@@ -225,7 +225,8 @@ fn many_names(alloc: Global, count: usize) -> Result<String, Fail> {
     Ok(query)
 }
 
-// The inputs `a`, `b` and `c`, whose second line is no JSON; a fourth open of a run would fail.
+// The inputs `a`, `b` and `c`, whose second line is no JSON, where all is evaluated in one place; a
+// fourth open would fail.
 fn three_inputs<R: Threads + Wait + Sync + Abort>(
     rt: &R,
     alloc: Global,
@@ -234,7 +235,7 @@ fn three_inputs<R: Threads + Wait + Sync + Abort>(
     let mut files = files_of(alloc, query.as_bytes(), b"1")?;
     add(alloc, &mut files, "c", b"3\n{\n")?;
     let fails = failing(alloc, &[4], &[])?;
-    run_failing(rt, alloc, &["run", "q"], files, fails)
+    run_failing(rt, alloc, &["run", "q", "--mode", "local"], files, fails)
 }
 
 // Several inputs in one call: each is opened once, and a missing one goes before a faulty line.

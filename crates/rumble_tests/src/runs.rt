@@ -9,6 +9,18 @@ use std::sync::Wait;
 use std::test::Fail;
 use std::thread::Threads;
 
+/// The ways to run the query `q`: all in one place; and in pieces of one byte, of four, and of the
+/// size where none is asked for, by one worker and by two.
+const WAYS: [&[&str]; 7] = [
+    &["run", "q", "--mode", "local"],
+    &["run", "q", "--partition", "1", "--workers", "1"],
+    &["run", "q", "--partition", "1", "--workers", "2"],
+    &["run", "q", "--partition", "4", "--workers", "1"],
+    &["run", "q", "--partition", "4", "--workers", "2"],
+    &["run", "q", "--workers", "1"],
+    &["run", "q", "--workers", "2"],
+];
+
 /// What a run leaves.
 #[derive(Drop)]
 pub(crate) struct Outcome {
@@ -41,7 +53,8 @@ pub(crate) fn failing(alloc: Global, opens: &[u64], calls: &[(u64, u64)]) -> Res
     })
 }
 
-fn texts(alloc: Global, words: &[&str]) -> Result<Vec<Str>, Fail> {
+/// The words of a command line.
+pub(crate) fn texts(alloc: Global, words: &[&str]) -> Result<Vec<Str>, Fail> {
     let mut texts = Vec::new(alloc);
     for word in words {
         texts.push(Str::of(alloc, word)?)?;
@@ -217,7 +230,7 @@ fn lines(alloc: Global, text: &str) -> Result<String, Fail> {
     Ok(out)
 }
 
-// What a run of a query over the input `a` leaves.
+// What a run of a query over the input `a` leaves, whichever way it is run.
 fn assert_run<R: Threads + Wait + Sync + Abort>(
     rt: &R,
     alloc: Global,
@@ -230,9 +243,11 @@ fn assert_run<R: Threads + Wait + Sync + Abort>(
         Some((query, input)) => (quoted(alloc, query)?, lines(alloc, input)?),
         None => (quoted(alloc, asked)?, String::new(alloc)),
     };
-    let files = files_of(alloc, query.as_bytes(), input.as_bytes())?;
-    let left = run_files(rt, alloc, &["run", "q"], files, (1000, 100))?;
-    assert_left(rt, &left, status, out.as_bytes(), err.as_bytes(), asked);
+    for words in WAYS {
+        let files = files_of(alloc, query.as_bytes(), input.as_bytes())?;
+        let left = run_files(rt, alloc, words, files, (1000, 100))?;
+        assert_left(rt, &left, status, out.as_bytes(), err.as_bytes(), asked);
+    }
     Ok(())
 }
 

@@ -18,7 +18,7 @@ of_run stats text world query =
 abbrev pub of_executable : Action → List ℕ → World → Executable → Answer
 of_executable action.Check text world query = accepted
 of_executable action.Explain text world query = explained text query.trees
-of_executable (action.Run stats) text world query = of_run stats text world query
+of_executable (action.Run run) text world query = of_run run.stats text world query
 
 abbrev pub of_front : Action → List ℕ → World → Front → Answer
 of_front act text world (Ok query) = of_executable act text world query

@@ -32,5 +32,4 @@ FaultsBy (Err status) before after = StopsBy status before after
 -- the search was gone through, or some of it, by the status
 abbrev pub SearchedBy : Search → Status → InputCounts → InputCounts → Type 0
 SearchedBy search status before after =
-    OpenedBy (length search.files) status before after
-    × MissedBy (length search.missing) status before after
+    OpenedBy search status before after × MissedBy search status before after

@@ -1,5 +1,6 @@
 use Rattle.std.proofs.Common.{sym, ◌∙◌, ap, Some, option_map}
 use Rattle.rumble_run.specs.Commands.{stats_of}
+use Rattle.rumble_run.specs.inside.Seen.{decided_status}
 use Rattle.rumble_run.proofs.Answered.{searched_at_most, searched_missing_query, searched_query}
 use Rattle.rumble_run.proofs.Endings.{file_missing, ended_read, read_opens, read_alone, stopped_alone}
 use Rattle.rumble_run.proofs.decide.of_file.Goals as goal
@@ -7,7 +8,7 @@ use Rattle.rumble_run.proofs.decide.of_file.Goals as goal
 pub returns-in-Err-clause-searched : goal.returns-in-Err-clause-searched
 returns-in-Err-clause-searched g c =
     let searched = rw c.as_str.ensures.value at c.in-Err.ensures.searched in
-    searched_at_most (g.I.Inputs.world c.args.inputs.now) c.args.action c.args.name.now (g.I.Inputs.counts c.args.inputs.now) (g.I.Inputs.counts c.read_named.new.inputs) searched
+    searched_at_most c.in-Err.stop (g.I.Inputs.world c.args.inputs.now) c.args.action c.args.name.now (g.I.Inputs.counts c.args.inputs.now) (g.I.Inputs.counts c.read_named.new.inputs) searched
 
 pub returns-in-Err-clause-alone : goal.returns-in-Err-clause-alone
 returns-in-Err-clause-alone g c =
@@ -22,7 +23,7 @@ pub returns-in_ok-tells_no_query-in-Ok-None-clause-searched : goal.returns-in_ok
 returns-in_ok-tells_no_query-in-Ok-None-clause-searched g c =
     let bytes = rw (c.as_str.ensures.value, c.in-Ok-None.field-0-is) at c.in-Ok-None.ensures.bytes in
     let searched = rw c.as_str.ensures.value at c.in-Ok-None.ensures.searched in
-    searched_missing_query (g.I.Inputs.world c.args.inputs.now) c.args.action c.args.name.now (g.I.Inputs.counts c.args.inputs.now) (g.I.Inputs.counts c.read_named.new.inputs) bytes searched
+    searched_missing_query _ (g.I.Inputs.world c.args.inputs.now) c.args.action c.args.name.now (g.I.Inputs.counts c.args.inputs.now) (g.I.Inputs.counts c.read_named.new.inputs) bytes searched
 
 pub returns-in-Ok-Some-clause-value : goal.returns-in-Ok-Some-clause-value
 returns-in-Ok-Some-clause-value g c =
@@ -37,7 +38,7 @@ returns-in-Ok-Some-clause-searched g c =
     let bytes = rw (c.as_str.ensures.value, is) at c.in-Ok-Some.ensures.bytes in
     let searched = rw c.as_str.ensures.value at c.in-Ok-Some.ensures.searched in
     let behind = rw c.in-Ok-Some.ensures.world at c.of_query.ensures.searched in
-    searched_query c.of_query.result (g.I.Inputs.world c.args.inputs.now) c.args.action c.args.name.now c.deref.result.now (g.I.Inputs.counts c.args.inputs.now)
+    searched_query (decided_status c.of_query.result) (g.I.Inputs.world c.args.inputs.now) c.args.action c.args.name.now c.deref.result.now (g.I.Inputs.counts c.args.inputs.now)
     (g.I.Inputs.counts c.read_named.new.inputs) (g.I.Inputs.counts c.of_query.new.inputs) c.of_query.ensures.counts.leaves.rises bytes searched behind
 
 pub returns-in-Ok-Some-clause-opens : goal.returns-in-Ok-Some-clause-opens

@@ -1,7 +1,7 @@
 use Rattle.std.proofs.Common.{Ok, Err}
 use Rattle.rumble_run.specs.Commands.{stats_of}
 use Rattle.rumble_run.specs.Front.{IsFront}
-use Rattle.rumble_run.specs.inside.Seen.{executable_of}
+use Rattle.rumble_run.specs.inside.Seen.{executable_of, decided_status}
 use Rattle.rumble_run.proofs.Answered.{of_front_searched, refused_searched}
 use Rattle.rumble_run.proofs.Endings.{of_refusal, query_refused, query_ended}
 use Rattle.rumble_run.proofs.decide.of_query.Goals as goal
@@ -23,10 +23,10 @@ returns-in_ok-tells_refusal-in-Err-Refused-clause-shape g c =
 
 pub returns-in-Ok-clause-searched : goal.returns-in-Ok-clause-searched
 returns-in-Ok-clause-searched g c =
-    of_front_searched c.of_executable-ending.result (g.I.Inputs.world c.args.inputs.now) c.args.action c.args.query.now (Ok (executable_of c.in-Ok.compiled)) (g.I.Inputs.counts c.args.inputs.now)
+    of_front_searched (decided_status c.of_executable-ending.result) (g.I.Inputs.world c.args.inputs.now) c.args.action c.args.query.now (Ok (executable_of c.in-Ok.compiled)) (g.I.Inputs.counts c.args.inputs.now)
     (g.I.Inputs.counts c.of_executable-ending.new.inputs) c.in-Ok.ensures c.of_executable-ending.ensures.searched
 
 pub returns-in_ok-tells_refusal-in-Err-Refused-clause-searched : goal.returns-in_ok-tells_refusal-in-Err-Refused-clause-searched
 returns-in_ok-tells_refusal-in-Err-Refused-clause-searched g c =
     let front : IsFront c.args.query.now (Err c.in-Err-Refused.fault) = rw c.in-Err-Refused.field-0-is at c.in-Err-Refused.ensures in
-    refused_searched (g.I.Inputs.world c.args.inputs.now) c.args.action c.args.query.now c.in-Err-Refused.fault (g.I.Inputs.counts c.args.inputs.now) front
+    refused_searched _ (g.I.Inputs.world c.args.inputs.now) c.args.action c.args.query.now c.in-Err-Refused.fault (g.I.Inputs.counts c.args.inputs.now) front

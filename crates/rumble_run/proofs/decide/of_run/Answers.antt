@@ -1,30 +1,18 @@
-use Rattle.std.proofs.Common.{◌≡◌, ◌∙◌, List, ℕ, Ok, ap, subst}
-use Rattle.std.specs.Prelude.{IfSome}
+use Rattle.std.proofs.Common.{◌∙◌, sym, ap, option_map}
 use Rattle.query_tree.specs.Compiled.{bound_trees}
-use Rattle.query_tree.specs.Inputs.{input_names}
-use Rattle.query_meaning.specs.inside.Computed.{inputs_of}
-use Rattle.query_meaning.specs.inside.Views.{library_of}
-use Rattle.rumble_run.specs.inside.Seen.{executable_of}
-use Rattle.rumble_run.proofs.Endings.{of_outcome_is, run_ended}
-use Rattle.rumble_run.proofs.LoneInputs.{lone_ended, lone_searched}
+use Rattle.rumble_run.specs.inside.Along.{names_along}
+use Rattle.rumble_run.specs.inside.Seen.{decided_status}
+use Rattle.rumble_run.proofs.AlongPlan.{chosen_along, chosen_whole}
 use Rattle.rumble_run.proofs.decide.of_run.Goals as goal
-
-pub returns-clause-shape : goal.returns-clause-shape
-returns-clause-shape g c = of_outcome_is c.args.stats _ _ _ c.in_ok-ending-2.ensures.value
-
-pub returns-clause-value : goal.returns-clause-value
-returns-clause-value g c =
-    let names = c.deref-2.ensures.value ∙ c.in_ok-names.ensures ∙ ap (λ t. input_names (bound_trees t)) c.module.ensures.tree in
-    let read = subst (λ (ns : List (List ℕ)). IfSome (g.I.Inputs.world c.args.inputs.now) (λ w. library_of c.in_ok-library.library ≡ inputs_of w ns)) names c.in_ok-library.ensures.held in
-    run_ended c.args.stats _ c.args.text.now (executable_of c.args.query.now) (library_of c.in_ok-library.library) (g.I.Inputs.world c.args.inputs.now) read c.in_ok-ending-2.ensures.value
-
-pub returns-in-Some-clause-value : goal.returns-in-Some-clause-value
-returns-in-Some-clause-value g c =
-    let names = c.deref.ensures.value ∙ c.in_ok-names.ensures ∙ ap (λ t. input_names (bound_trees t)) c.module.ensures.tree in
-    let lone = rw c.module-2.ensures.tree at c.in-Some.ensures in
-    lone_ended c.args.stats _ c.args.text.now (executable_of c.args.query.now) _ _ _ (g.I.Inputs.world c.args.inputs.now) names lone.0 lone.1 c.in_ok-ending.ensures.value
 
 pub returns-in-Some-clause-searched : goal.returns-in-Some-clause-searched
 returns-in-Some-clause-searched g c =
-    let names = c.deref.ensures.value ∙ c.in_ok-names.ensures ∙ ap (λ t. input_names (bound_trees t)) c.module.ensures.tree in
-    lone_searched (Ok c.in_ok-ending.ending) _ _ _ (g.I.Inputs.world c.args.inputs.now) (g.I.Inputs.counts c.args.inputs.now) (g.I.Inputs.counts c.of_lone_input.new.inputs) names (c.in-Some.ensures).0 c.in_ok-ending.ensures.searched
+    let along = sym (ap (λ t. names_along (bound_trees t)) c.«module».ensures.tree) ∙ sym c.in_ok-names.ensures ∙ ap (option_map (λ v. v.items)) c.in-Some.is in
+    chosen_along c.args.running (bound_trees c.args.query.now.tree) _ (decided_status c.of_planned.result) (g.I.Inputs.world c.args.inputs.now) (g.I.Inputs.counts c.args.inputs.now) (g.I.Inputs.counts c.of_planned.new.inputs)
+    c.if-running.false along c.of_planned.ensures.searched
+
+pub returns-in-None-clause-searched : goal.returns-in-None-clause-searched
+returns-in-None-clause-searched g c =
+    let along = sym (ap (λ t. names_along (bound_trees t)) c.«module».ensures.tree) ∙ sym c.in_ok-names.ensures ∙ ap (option_map (λ v. v.items)) c.in-None.is in
+    chosen_whole c.args.running (bound_trees c.args.query.now.tree) (decided_status c.of_local-in-None.result) (g.I.Inputs.world c.args.inputs.now) (g.I.Inputs.counts c.args.inputs.now) (g.I.Inputs.counts c.of_local-in-None.new.inputs)
+    c.if-running.false along c.of_local-in-None.ensures.searched

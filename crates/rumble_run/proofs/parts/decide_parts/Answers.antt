@@ -1,6 +1,6 @@
 use Rattle.std.proofs.Common.{Ok, sym, ◌∙◌}
-use Rattle.rumble_run.specs.inside.Seen.{answer_of}
-use Rattle.rumble_run.proofs.Parting.{usage_decided, run_decided, opens_decided, opens_usage, search_no_task, search_decided, stop_decided}
+use Rattle.rumble_run.specs.inside.Seen.{answer_of, decided_status, status_of_stop}
+use Rattle.rumble_run.proofs.Parting.{usage_decided, run_decided, opens_decided, opens_usage, search_no_task, search_decided}
 use Rattle.rumble_run.proofs.parts.decide_parts.Goals as goal
 
 pub returns-in-None-clause-value : goal.returns-in-None-clause-value
@@ -17,7 +17,7 @@ returns-in-None-clause-opens g c =
 pub returns-in-None-clause-searched : goal.returns-in-None-clause-searched
 returns-in-None-clause-searched g c =
     search_no_task (g.I.Inputs.world c.args.inputs.now) c.args.words.now (g.I.Inputs.counts c.args.inputs.now)
-    (sym c.in_ok-task_asked.ensures.task ∙ c.in-None.is)
+    (sym c.in_ok-task_asked.ensures.task ∙ c.in-None.is) _
 
 pub returns-in-Ok-clause-value : goal.returns-in-Ok-clause-value
 returns-in-Ok-clause-value g c =
@@ -32,12 +32,12 @@ returns-in-Ok-clause-opens g c =
 
 pub returns-in-Ok-clause-searched : goal.returns-in-Ok-clause-searched
 returns-in-Ok-clause-searched g c =
-    search_decided (Ok c.in-Ok.ending) (g.I.Inputs.world c.args.inputs.now) c.args.words.now c.in-Some.task
+    search_decided (decided_status (Ok c.in-Ok.ending)) (g.I.Inputs.world c.args.inputs.now) c.args.words.now c.in-Some.task
     (g.I.Inputs.counts c.args.inputs.now) (g.I.Inputs.counts c.of_file.new.inputs)
     (sym c.in_ok-task_asked.ensures.task ∙ c.in-Some.is) c.in-Ok.ensures.searched
 
 pub returns-clause-searched : goal.returns-clause-searched
 returns-clause-searched g c =
-    stop_decided (g.I.Inputs.world c.args.inputs.now) c.args.words.now c.in-Some.task
+    search_decided (status_of_stop c.in-Err.stop) (g.I.Inputs.world c.args.inputs.now) c.args.words.now c.in-Some.task
     (g.I.Inputs.counts c.args.inputs.now) (g.I.Inputs.counts c.of_file.new.inputs)
     (sym c.in_ok-task_asked.ensures.task ∙ c.in-Some.is) c.in-Err.ensures.searched

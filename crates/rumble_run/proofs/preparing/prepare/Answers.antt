@@ -1,4 +1,4 @@
-use Rattle.std.proofs.Common.{[], length, sym}
+use Rattle.std.proofs.Common.{[], sym}
 use Rattle.rumble_run.specs.Commands.{command_of}
 use Rattle.rumble_run.specs.Ends.{Wrote, OpensBy, ChecksAlone, OpenedBy, MissedBy, err_by}
 use Rattle.rumble_run.specs.Opens.{OfSearch}
@@ -38,13 +38,13 @@ returns-in-Ok-clause-completes g c = λ calm.
 pub returns-in-Ok-clause-opened : goal.returns-in-Ok-clause-opened
 returns-in-Ok-clause-opened g c =
     settled_by (λ s. OfSearch (g.I.Inputs.world c.args.inputs.now) (command_of c.args.words.now) (λ search.
-    OpenedBy (length search.files) s (g.I.Inputs.counts c.args.inputs.now) (g.I.Inputs.counts c.prepared.new.inputs))) _ c.in-Ok.ending.status c.settle.result c.settle.ensures.done c.settle.ensures.other
+    OpenedBy search s (g.I.Inputs.counts c.args.inputs.now) (g.I.Inputs.counts c.prepared.new.inputs))) _ c.in-Ok.ending.status c.settle.result c.settle.ensures.done c.settle.ensures.other
     (search_opened (g.I.Inputs.world c.args.inputs.now) (command_of c.args.words.now) _ _ _ c.in-Ok.ensures.searched)
 
 pub returns-in-Ok-clause-missed : goal.returns-in-Ok-clause-missed
 returns-in-Ok-clause-missed g c =
     settled_by (λ s. OfSearch (g.I.Inputs.world c.args.inputs.now) (command_of c.args.words.now) (λ search.
-    MissedBy (length search.missing) s (g.I.Inputs.counts c.args.inputs.now) (g.I.Inputs.counts c.prepared.new.inputs))) _ c.in-Ok.ending.status c.settle.result c.settle.ensures.done c.settle.ensures.other
+    MissedBy search s (g.I.Inputs.counts c.args.inputs.now) (g.I.Inputs.counts c.prepared.new.inputs))) _ c.in-Ok.ending.status c.settle.result c.settle.ensures.done c.settle.ensures.other
     (search_missed (g.I.Inputs.world c.args.inputs.now) (command_of c.args.words.now) _ _ _ c.in-Ok.ensures.searched)
 
 pub returns-in-Ok-clause-opens : goal.returns-in-Ok-clause-opens
