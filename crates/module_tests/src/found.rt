@@ -60,8 +60,11 @@ fn shown<I: Inputs>(alloc: Global, inputs: &mut I) -> Result<String, Fail> {
 }
 
 const TWICE: &[u8] = b"declare function twice($n) { $n * 2 }; ()";
+
 const THRICE: &[u8] = b"declare function thrice($n) { $n * 3 }; ()";
+
 const OF_LIB: &[u8] = b"import module \"lib\"; twice(4)";
+
 const OF_BOTH: &[u8] = b"import module \"lib\"; import module \"more\"; twice(thrice(4))";
 
 #[test]
@@ -73,7 +76,10 @@ fn queries_are_put_together(rt: HostRuntime) -> Result<(), Fail> {
         (
             &[
                 ("q", OF_LIB),
-                ("lib", b"\xef\xbb\xbfdeclare function twice($n) { $n * 2 }; ()"),
+                (
+                    "lib",
+                    b"\xef\xbb\xbfdeclare function twice($n) { $n * 2 }; ()",
+                ),
             ],
             "twice/41+29",
         ),
@@ -113,7 +119,10 @@ fn queries_are_put_together(rt: HostRuntime) -> Result<(), Fail> {
             "XPST0003 35 more of 3",
         ),
         (&[("q", OF_LIB), ("lib", b"4")], "PJST0009 0 lib of 2"),
-        (&[("q", b"import module \"lib\"; twice(")], "XPST0003 27 q of 1"),
+        (
+            &[("q", b"import module \"lib\"; twice(")],
+            "XPST0003 27 q of 1",
+        ),
     ];
     for (row, (files, want)) in cases.into_iter().enumerate() {
         let mut inputs = inputs_of(rt.alloc(), files)?;

@@ -24,7 +24,7 @@ returns-in-Err-Refused-clause-found g c =
     (λ w told held.
     subst (λ (u : Unfound). IfSome (found_of c.args.name.now (Err u)) (λ f. IsFoundIn w c.args.name.now f)) (sym c.refused.ensures)
     (let is : IsFoundIn w c.args.name.now (unloaded c.in-Err-Refused.why.code
-        (where_text (refusal_place c.args.name.now (refusal_of c.in-Err-Refused.why) c.in-Err-Refused.contents)) c.in-Err-Refused.why.opened) =
+    (where_text (refusal_place c.args.name.now (refusal_of c.in-Err-Refused.why) c.in-Err-Refused.contents)) c.in-Err-Refused.why.opened) =
     refused_found _ (λ text answer h. subst (λ (t : List ℕ). IfSome (reading_of answer) (λ r. IsReadText t r)) h.shows h.says.met)
     w c.args.name.now c.in-Err-Refused.why c.in-Err-Refused.contents told held in
     rw c.in-Err-Refused.field-0-is is))
